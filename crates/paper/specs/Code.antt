@@ -1,0 +1,36 @@
+-- [The index, read from its end] A code: seven bits in each byte, the lowest first; the high bit says that one more byte follows.
+use Prim.Native.Nat.{ℕ, _+_, _*_, _/_, _%_}
+use mathlib.Core.List.{List, [], _∷_}
+use lib.Dec.{ltb, eqb}
+use Rattle.paper.specs.Lists.{pick}
+
+-- what stands at the front of some bytes: a code's value and the bytes behind it, or no code
+pub data Code : Type 0 where
+  code : ℕ → List ℕ → Code
+  bad : Code
+
+-- b where there is no code, else f of the value and of the bytes behind it
+abbrev pub onCode : {A : Type 0} → Code → A → (ℕ → List ℕ → A) → A
+onCode bad b f = b
+onCode (code v r) b f = f v r
+
+-- Reading: one function for each byte, with the value of the bytes before it. A code may end with its first byte, whatever that is;
+-- a second or third byte that ends it is not zero; a third byte ends it
+unfoldable pub third : ℕ → List ℕ → Code
+third v [] = bad
+third v (d ∷ r) = pick (ltb d 128) (pick (eqb d 0) bad (code (v + 16384 * d) r)) bad
+
+unfoldable pub second : ℕ → List ℕ → Code
+second v [] = bad
+second v (b ∷ r) = pick (ltb b 128) (pick (eqb b 0) bad (code (v + 128 * b) r)) (third (v + 128 * (b % 128)) r)
+
+unfoldable pub codeOf : List ℕ → Code
+codeOf [] = bad
+codeOf (a ∷ r) = pick (ltb a 128) (code a r) (second (a % 128) r)
+
+-- Writing: as few bytes as hold the value, which is below 2,097,152
+unfoldable pub codeBytes : ℕ → List ℕ
+codeBytes v =
+    pick (ltb v 128) (v ∷ [])
+    (pick (ltb v 16384) ((128 + v % 128) ∷ v / 128 ∷ [])
+    ((128 + v % 128) ∷ (128 + v / 128 % 128) ∷ v / 16384 ∷ []))

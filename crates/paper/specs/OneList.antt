@@ -1,0 +1,60 @@
+-- [Numbers of refusal] Operations on one list of an index: testing a slot, counting, lending the record.
+use Prim.Native.Nat.{ℕ, _+_, _-_}
+use mathlib.Core.Path.{_≡_}
+use mathlib.Core.Bool.{false}
+use mathlib.Core.List.{List, [], _∷_}
+use Rattle.paper.specs.Lists.{has}
+use Rattle.paper.specs.Held.{countOf}
+use Rattle.paper.specs.Refusal.{accepted, ifAccepted, orElse, fault11, fault16}
+use Rattle.paper.specs.Index.{uOf, kOf, startOf, recordOf, held}
+use Rattle.paper.specs.Look.{look}
+use Rattle.paper.specs.declared.Verdict.{Verdict}
+use Rattle.paper.specs.declared.Tested.{Tested}
+use Rattle.paper.specs.declared.Counted.{Counted}
+use Rattle.paper.specs.declared.Part.{Part}
+
+-- the index, then 11 of the one name
+unfoldable pub nameFault : List ℕ → ℕ → Verdict
+nameFault index name = let after = fault11 (kOf index) (name ∷ []) accepted in orElse (look index) after
+
+-- Testing: the index, 11, 16; yes exactly when the list holds the slot
+unfoldable pub testFault : List ℕ → ℕ → ℕ → Verdict
+testFault index name x = let after = fault16 (uOf index) x accepted in orElse (nameFault index name) after
+
+unfoldable pub testAnswer : List ℕ → ℕ → ℕ → Tested
+testAnswer index name x =
+    let v = testFault index name x in
+    let holds = has x (held index name) in
+    record { number = v .number; place = v .place; yes = ifAccepted v holds false }
+
+-- Counting: the index, 11; how many slots the list holds
+unfoldable pub countAnswer : List ℕ → ℕ → Counted
+countAnswer index name =
+    let v = nameFault index name in
+    let held = countOf (recordOf index name) in
+    record { number = v .number; place = v .place; count = ifAccepted v held 0 }
+
+-- Lending: the record's bytes as they lie, and none where counting refuses
+unfoldable pub lent : List ℕ → ℕ → List ℕ
+lent index name = let bytes = recordOf index name in ifAccepted (nameFault index name) bytes []
+
+-- where the lent bytes lie in the index
+unfoldable pub partAnswer : List ℕ → ℕ → Part
+partAnswer index name =
+    let v = nameFault index name in
+    let from = startOf index name in
+    let size = startOf index (name + 1) - from in
+    record { number = v .number; place = v .place; start = ifAccepted v from 0; length = ifAccepted v size 0 }
+
+-- the promises of testing, counting, lending, and telling where the lent part lies
+abbrev pub MeetsTest : List ℕ → ℕ → ℕ → Tested → Type 0
+MeetsTest index name slot answer = answer ≡ testAnswer index name slot
+
+abbrev pub MeetsCount : List ℕ → ℕ → Counted → Type 0
+MeetsCount index name answer = answer ≡ countAnswer index name
+
+abbrev pub MeetsLend : List ℕ → ℕ → List ℕ → Type 0
+MeetsLend index name bytes = bytes ≡ lent index name
+
+abbrev pub MeetsPart : List ℕ → ℕ → Part → Type 0
+MeetsPart index name answer = answer ≡ partAnswer index name

@@ -1,0 +1,83 @@
+-- [The index, read from its end; Numbers of refusal] A record: a head of three numbers, then bits, then skip entries, then code bytes.
+-- Its parts are taken off the front one after the other, each by what the head says.
+use Prim.Native.Nat.{ℕ, _+_, _-_, _*_, _/_, _%_, _^_}
+use mathlib.Core.Bool.{Bool, _&&_}
+use mathlib.Core.List.{List}
+use lib.ListN.{length, take, drop}
+use lib.Dec.{ltb, eqb}
+use Rattle.paper.specs.Lists.{pick, keep, upFrom}
+use Rattle.paper.specs.Bytes.{byteAt, u32At, ceilDiv}
+use Rattle.paper.specs.Tail.{Tail, blockCount, readTail}
+
+-- The head, 12 bytes: the cut c, the tail count n, the code length L
+abbrev pub cutOf : List ℕ → ℕ
+cutOf r = u32At r 0
+
+abbrev pub tailCount : List ℕ → ℕ
+tailCount r = u32At r 4
+
+abbrev pub codeLength : List ℕ → ℕ
+codeLength r = u32At r 8
+
+-- the bytes of the bits: one bit for each slot up to the cut
+abbrev pub bitLength : ℕ → ℕ
+bitLength c = ceilDiv c 8
+
+-- the bit part of a record, and what stands behind it
+abbrev pub bitsOf : List ℕ → List ℕ
+bitsOf r = take (bitLength (cutOf r)) (drop 12 r)
+
+abbrev pub behindBits : List ℕ → List ℕ
+behindBits r = drop (bitLength (cutOf r)) (drop 12 r)
+
+-- of what stands behind the bits, the skip entries of m blocks, and the code bytes
+abbrev pub entriesOf : ℕ → List ℕ → List ℕ
+entriesOf m r = take (8 * m) r
+
+abbrev pub codesOf : ℕ → List ℕ → List ℕ
+codesOf m r = drop (8 * m) r
+
+-- Bit x stands in this byte, at this digit of it: digit 7 is the top one, and bit 1 is the top bit of the first byte
+abbrev pub byteOf : ℕ → ℕ
+byteOf x = (x - 1) / 8
+
+abbrev pub digitOf : ℕ → ℕ
+digitOf x = 7 - (x - 1) % 8
+
+abbrev pub digit : ℕ → ℕ → ℕ
+digit b s = b / 2 ^ s % 2
+
+unfoldable pub bitAt : List ℕ → ℕ → Bool
+bitAt bits x = eqb (digit (byteAt bits (byteOf x)) (digitOf x)) 1
+
+-- the slots up to c whose bit is set; bits beyond c play no part
+unfoldable pub slotsToCut : ℕ → List ℕ → List ℕ
+slotsToCut c bits = keep (bitAt bits) (upFrom 1 c)
+
+-- the tail of a head that says c, n and L; r stands behind the bits
+unfoldable pub tailIn : ℕ → ℕ → ℕ → ℕ → ℕ → List ℕ → Tail
+tailIn u B c n L r = let m = blockCount B n in readTail u B c n L (entriesOf m r) (codesOf m r)
+
+unfoldable pub tailOf : ℕ → ℕ → List ℕ → Tail
+tailOf u B r = tailIn u B (cutOf r) (tailCount r) (codeLength r) (behindBits r)
+
+-- 6: a cut above u, more tail slots than there are above the cut, codes without a tail, or parts that do not sum to the record's size;
+-- else what follows
+unfoldable pub fault6 : ℕ → ℕ → ℕ → ℕ → ℕ → ℕ → ℕ → ℕ
+fault6 u B size c n L rest =
+    pick (ltb u c) 6
+    (pick (ltb (u - c) n) 6
+    (pick (eqb n 0 && ltb 0 L) 6
+    (pick (eqb (12 + bitLength c + 8 * blockCount B n + L) size) rest 6)))
+
+-- the tests of a record of some size, of which r stands behind the head: 6, then those of the tail
+unfoldable pub partsFault : ℕ → ℕ → ℕ → List ℕ → List ℕ → ℕ
+partsFault u B size head r =
+    let c = cutOf head in
+    let n = tailCount head in
+    let L = codeLength head in
+    let tail = tailIn u B c n L (drop (bitLength c) r) .fault in
+    fault6 u B size c n L tail
+
+unfoldable pub recordFault : ℕ → ℕ → List ℕ → ℕ
+recordFault u B r = partsFault u B (length r) (take 12 r) (drop 12 r)

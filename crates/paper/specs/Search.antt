@@ -1,0 +1,59 @@
+-- [The question and its search] The doubling search for a slot x over entries s(0) .. s(m) from a finger p, told by the positions that it
+-- looks at, in their order. A look is the comparison of one entry with x, so the looks are their number.
+use Prim.Native.Nat.{ℕ, zero, suc, _+_, _-_, _*_, _/_}
+use mathlib.Core.List.{List, [], _∷_}
+use lib.ListN.{length}
+use lib.Dec.{leb, ltb}
+use Rattle.paper.specs.Lists.{pick}
+
+-- j, and the positions looked at
+pub record Sought : Type 0 where
+  pub j : ℕ
+  pub seen : List ℕ
+
+abbrev pub at : ℕ → Sought
+at j = record { j = j; seen = [] }
+
+-- a look at position i, and then the rest
+abbrev pub saw : ℕ → Sought → Sought
+saw i t = record { j = t .j; seen = i ∷ t .seen }
+
+abbrev pub looksOf : Sought → ℕ
+looksOf t = length (t .seen)
+
+-- the middle of lo and hi, rounded down
+abbrev pub mid : ℕ → ℕ → ℕ
+mid lo hi = lo + (hi - lo) / 2
+
+module _ (s : ℕ → ℕ) (x : ℕ) where
+  -- at most f halvings: while hi − lo is above 1, look at the middle, which becomes lo if its entry is ≤ x, else hi
+  unfoldable pub halvedF : ℕ → ℕ → ℕ → Sought
+  halvedF zero lo hi = at lo
+  halvedF (suc f) lo hi =
+      let i = mid lo hi in
+      let good = leb (s i) x in
+      let half = saw i (halvedF f (pick good i lo) (pick good hi i)) in
+      pick (ltb 1 (hi - lo)) half (at lo)
+
+  -- hi − lo of them are always enough
+  unfoldable pub halved : ℕ → ℕ → Sought
+  halved lo hi = halvedF (hi - lo) lo hi
+
+  -- at most f doublings: look at p + d, p + 2d, p + 4d .. while the position is ≤ m and the entry ≤ x. Then halve between the last good position
+  -- lo and the failed one, or m + 1 if the next position lies past m
+  unfoldable pub gallopedF : ℕ → ℕ → ℕ → ℕ → ℕ → Sought
+  gallopedF zero m p d lo = halved lo (m + 1)
+  gallopedF (suc f) m p d lo =
+      let on = gallopedF f m p (2 * d) (p + d) in
+      let failed = halved lo (p + d) in
+      let look = saw (p + d) (pick (leb (s (p + d)) x) on failed) in
+      let past = halved lo (m + 1) in
+      pick (leb (p + d) m) look past
+
+  -- m of them are always enough
+  unfoldable pub galloped : ℕ → ℕ → ℕ → ℕ → Sought
+  galloped m p d lo = gallopedF m m p d lo
+
+  -- the search: p + 1 first. The finger counts as the last good position, so where p + 1 fails or lies past m nothing is left to halve, and j = p
+  unfoldable pub searched : ℕ → ℕ → Sought
+  searched m p = galloped m p 1 p

@@ -1,0 +1,71 @@
+-- [The question and its search] Candidates tried in one list after the other: which are kept, and what that costs in looks and codes.
+use Prim.Native.Nat.{ℕ, zero, suc, _+_}
+use mathlib.Core.Bool.{Bool}
+use mathlib.Core.List.{List, [], _∷_}
+use lib.ListN.{getD}
+use lib.Dec.{leb, eqb}
+use Rattle.paper.specs.Lists.{pick}
+use Rattle.paper.specs.Record.{bitAt}
+use Rattle.paper.specs.Held.{Listed, entryOf}
+use Rattle.paper.specs.Search.{searched, looksOf}
+
+-- A block is read from its first slot until a slot ≥ x or its end: the codes read, and the slot where it stopped (0: the block ran out)
+pub record Seek : Type 0 where
+  pub slot : ℕ
+  pub codes : ℕ
+
+abbrev pub ended : ℕ → ℕ → Seek
+ended x y = record { slot = pick (leb x y) y 0; codes = 0 }
+
+abbrev pub more : Seek → Seek
+more t = record { slot = t .slot; codes = 1 + t .codes }
+
+-- y is the slot read last and zs are those behind it: each of them costs a code
+unfoldable pub seek : ℕ → ℕ → List ℕ → Seek
+seek x y [] = ended x y
+seek x y (z ∷ zs) = let on = more (seek x z zs) in pick (leb x y) (ended x y) on
+
+abbrev pub seekBlock : ℕ → List ℕ → Seek
+seekBlock x [] = record { slot = 0; codes = 0 }
+seekBlock x (y ∷ ys) = seek x y ys
+
+-- the j-th block, counted from 1; where j is 0 nothing is read
+unfoldable pub seekIn : List (List ℕ) → ℕ → ℕ → Seek
+seekIn blocks x zero = seekBlock x []
+seekIn blocks x (suc b) = seekBlock x (getD blocks b [])
+
+-- One candidate x, tried in one list with the finger at p
+pub record Try : Type 0 where
+  pub found : Bool
+  pub finger : ℕ
+  pub looks : ℕ
+  pub codes : ℕ
+
+-- up to the cut: the bit, with no search, and the finger stays. Above it: the search, whose j is the finger from then on, and block j
+unfoldable pub tried : Listed → ℕ → ℕ → Try
+tried l p x =
+    let t = searched (entryOf (l .cut) (l .entries)) x (l .m) p in
+    let b = seekIn (l .blocks) x (t .j) in
+    let sought : Try = record { found = eqb (b .slot) x; finger = t .j; looks = looksOf t; codes = b .codes } in
+    let tested : Try = record { found = bitAt (l .bits) x; finger = p; looks = 0; codes = 0 } in
+    pick (leb x (l .cut)) tested sought
+
+-- The walk of all candidates through one list
+pub record Walk : Type 0 where
+  pub kept : List ℕ
+  pub looks : ℕ
+  pub codes : ℕ
+
+-- candidate x, tried with t, and then the walk w of the others
+abbrev pub tally : ℕ → Try → Walk → Walk
+tally x t w = record { kept = pick (t .found) (x ∷ w .kept) (w .kept); looks = t .looks + w .looks; codes = t .codes + w .codes }
+
+-- in ascending order, from finger p on
+unfoldable pub walkList : Listed → ℕ → List ℕ → Walk
+walkList l p [] = record { kept = []; looks = 0; codes = 0 }
+walkList l p (x ∷ xs) = let t = tried l p x in tally x t (walkList l (t .finger) xs)
+
+-- a walk for each list: the finger starts at 0 anew, with the candidates that the list before kept
+unfoldable pub walks : List Listed → List ℕ → List Walk
+walks [] xs = []
+walks (l ∷ ls) xs = let w = walkList l 0 xs in w ∷ walks ls (w .kept)

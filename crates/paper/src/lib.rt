@@ -1,0 +1,44 @@
+// The answers of the public operations, as plain structs. Which answer an operation gives is said by the definitions in specs/;
+// there is no code here.
+// Every answer has a number, 0 where the operation accepts, and a place. On refusal every other field is 0 or false.
+
+pub struct Verdict {
+    pub number: u32,
+    pub place: u32,
+}
+
+// The answer to a question: `count` slots stand at the front of the lent slice.
+pub struct Answer {
+    pub number: u32,
+    pub place: u32,
+    pub count: u32,
+    pub looks: u64,
+    pub codes: u64,
+}
+
+pub struct Tested {
+    pub number: u32,
+    pub place: u32,
+    pub yes: bool,
+}
+
+pub struct Counted {
+    pub number: u32,
+    pub place: u32,
+    pub count: u32,
+}
+
+// The length is that of the record written, or of the index closed.
+pub struct Written {
+    pub number: u32,
+    pub place: u32,
+    pub length: u32,
+}
+
+// Where one list's record lies in the index.
+pub struct Part {
+    pub number: u32,
+    pub place: u32,
+    pub start: u32,
+    pub length: u32,
+}
