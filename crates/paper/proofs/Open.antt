@@ -1,7 +1,7 @@
 -- Written by tools/mkopen: every definition opened at once. A proof by computation says `unfolding opened`.
 use Prim.Native.Nat.{ℕ}
 use mathlib.Core.List.{flatten}
-use Rattle.paper.specs.Lists.{has, same, keep, leading, upFrom, total, lastOf}
+use Rattle.paper.specs.Lists.{has, same, keep, leading, upFrom, total}
 use Rattle.paper.specs.Bytes.{u32At, u32Bytes, ceilDiv}
 use Rattle.paper.specs.Code.{third, second, codeOf, codeBytes}
 use Rattle.paper.specs.Block.{readCodes}
@@ -23,5 +23,5 @@ use Rattle.paper.specs.Program.{decimalF, decimal, printed, replied, onL
 use Rattle.paper.proofs.Hex.{hexF, hex, list0, list1, index, slots0, slots1}
 
 unfoldable pub opened : ℕ
-unfolding flatten has same keep leading upFrom total lastOf u32At u32Bytes ceilDiv third second codeOf codeBytes readCodes readBlocks readTail bitAt slotsToCut tailIn tailOf fault6 partsFault recordFault contents countOf listed entryOf fault1 fault2 fault3 fault4 tooShort startsFault fault5 fault10 fault11 fault12 goodSlots fault13 fault14 fault15 fault16 fromEnd startOf held frameFault listsFault look halvedF halved gallopedF galloped searched seek seekIn tried walkList walks inAll common commonSlots placed orderFrom order inOrder smallest fromSmallest bySkips roomNeeded askFault answerSlots walked askAnswer askSlice nameFault testFault testAnswer countAnswer lent partAnswer octet bitBytes inBlocks gapCodes blockCodes skipEntries encoded encode writeFault writtenWith writeAnswer writeBuffer closeFault frameBytes closeAnswer closeBuffer readNumbers readLine decimalF decimal printed replied onLine program hexF hex list0 list1 index slots0 slots1
+unfolding flatten has same keep leading upFrom total u32At u32Bytes ceilDiv third second codeOf codeBytes readCodes readBlocks readTail bitAt slotsToCut tailIn tailOf fault6 partsFault recordFault contents countOf listed entryOf fault1 fault2 fault3 fault4 tooShort startsFault fault5 fault10 fault11 fault12 goodSlots fault13 fault14 fault15 fault16 fromEnd startOf held frameFault listsFault look halvedF halved gallopedF galloped searched seek seekIn tried walkList walks inAll common commonSlots placed orderFrom order inOrder smallest fromSmallest bySkips roomNeeded askFault answerSlots walked askAnswer askSlice nameFault testFault testAnswer countAnswer lent partAnswer octet bitBytes inBlocks gapCodes blockCodes skipEntries encoded encode writeFault writtenWith writeAnswer writeBuffer closeFault frameBytes closeAnswer closeBuffer readNumbers readLine decimalF decimal printed replied onLine program hexF hex list0 list1 index slots0 slots1
 opened = 0

@@ -43,7 +43,7 @@ total [] = 0
 total (x ∷ xs) = x + total xs
 
 -- the last of x and then xs
-unfoldable pub lastOf : ℕ → List ℕ → ℕ
+abbrev pub lastOf : ℕ → List ℕ → ℕ
 lastOf x [] = x
 lastOf x (y ∷ ys) = lastOf y ys
 

@@ -1,0 +1,132 @@
+-- The blocks of a tail, step by step: what is left to read after one block, over `suc k`; then over `0 < k` and positions, as a loop that
+-- counts down has it: entries are left from block b on, code bytes from offset a on.
+use Prim.Native.Nat.{ℕ, zero, suc, _+_, _-_, _*_, _≤_, _<_, min}
+use mathlib.Core.Path.{_≡_, refl, sym, ap, _∙_}
+use mathlib.Core.List.{List, _∷_}
+use native.Mathlib.Numerals.{sub-one}
+use native.Mathlib.Omega.{arith}
+use lib.ListN.{take, drop}
+use lib.Dec.{eqb}
+use lib.Seq.{drop-drop}
+use borrow.Author.Tests.{lt-ltb, le-ltb, le-leb, lt-leb, eq-eqb, ne-eqb}
+use Rattle.paper.specs.Lists.{pick, lastOf}
+use Rattle.paper.specs.Bytes.{u32At, part}
+use Rattle.paper.specs.Block.{Block, readCodes}
+use Rattle.paper.specs.Tail.{Tail, stop, join, blockCount, firstSlot, offsetOf, endOf, readBlocks, readTail}
+use Rattle.laws.proofs.Words.{word-drop}
+
+module _ (u B L : ℕ) where
+  pub blocks-end : (n prev a : ℕ) (es cs : List ℕ) → readBlocks u B L 0 n prev a es cs ≡ stop 0
+  unfolding readBlocks
+  blocks-end n prev a es cs = refl
+
+  module _ (k n prev a : ℕ) (es cs : List ℕ) (first z : ℕ) (isF : first ≡ firstSlot es 0) (isZ : z ≡ endOf L es k) where
+    -- the codes of the block at the front
+    abbrev pub inner : Block
+    inner = readCodes u (min B n - 1) first (take (z - a) cs)
+
+    pub blocks-back : z < a → readBlocks u B L (suc k) n prev a es cs ≡ stop 7
+    unfolding readBlocks
+    blocks-back l = simp (← isZ, lt-ltb _ _ l)
+
+    module _ (l₁ : a ≤ z) where
+      pub blocks-beyond : L < z → readBlocks u B L (suc k) n prev a es cs ≡ stop 7
+      unfolding readBlocks
+      blocks-beyond l = simp (← isZ, le-ltb _ _ l₁, lt-ltb _ _ l)
+
+      module _ (l₂ : z ≤ L) where
+        pub blocks-low : first ≤ prev → readBlocks u B L (suc k) n prev a es cs ≡ stop 9
+        unfolding readBlocks
+        blocks-low l = simp (← isF, ← isZ, le-ltb _ _ l₁, le-ltb _ _ l₂, le-leb _ _ l)
+
+        module _ (l₃ : prev < first) where
+          pub blocks-high : u < first → readBlocks u B L (suc k) n prev a es cs ≡ stop 9
+          unfolding readBlocks
+          blocks-high l = simp (← isF, ← isZ, le-ltb _ _ l₁, le-ltb _ _ l₂, lt-leb _ _ l₃, lt-ltb _ _ l)
+
+          module _ (l₄ : first ≤ u) where
+            pub blocks-bad : ¬ (inner .fault ≡ 0) → readBlocks u B L (suc k) n prev a es cs ≡ stop (inner .fault)
+            unfolding readBlocks
+            blocks-bad f = simp (← isF, ← isZ, le-ltb _ _ l₁, le-ltb _ _ l₂, lt-leb _ _ l₃, le-ltb _ _ l₄, ne-eqb _ _ f)
+
+            pub blocks-next : inner .fault ≡ 0
+                → readBlocks u B L (suc k) n prev a es cs
+                ≡ join (first ∷ inner .slots) (readBlocks u B L k (n - B) (lastOf first (inner .slots)) z (drop 8 es) (drop (z - a) cs))
+            unfolding readBlocks
+            blocks-next f = simp (← isF, ← isZ, le-ltb _ _ l₁, le-ltb _ _ l₂, lt-leb _ _ l₃, le-ltb _ _ l₄, eq-eqb _ _ f)
+
+-- an entry by the number of its block
+pub first-at : (es : List ℕ) (b : ℕ) → firstSlot (drop (8 * b) es) 0 ≡ firstSlot es b
+first-at es b = word-drop (8 * b) es 0 ∙ ap (u32At es) (omega arith)
+
+pub offset-at : (es : List ℕ) (b d : ℕ) → offsetOf (drop (8 * b) es) d ≡ offsetOf es (b + d)
+offset-at es b d = word-drop (8 * b) es (8 * d + 4) ∙ ap (u32At es) (omega arith)
+
+-- where the codes of block b end, k blocks being behind it
+abbrev pub endAt : ℕ → List ℕ → ℕ → ℕ → ℕ
+endAt L es b k = pick (eqb k 0) L (offsetOf es (b + 1))
+
+pub end-at : (L : ℕ) (es : List ℕ) (b k : ℕ) → endAt L es b k ≡ endOf L (drop (8 * b) es) k
+end-at L es b k = ap (pick (eqb k 0) L) (sym (offset-at es b 1))
+
+-- k blocks with n slots are left, from block b and offset a on
+module _ (u B L k n prev b a : ℕ) (es cs : List ℕ) where
+  abbrev left : ℕ → Tail
+  left m = readBlocks u B L m n prev a (drop (8 * b) es) (drop a cs)
+
+  pub turn-end : k ≤ 0 → left k ≡ stop 0
+  turn-end h = let z : k ≡ 0 = omega arith in ap left z ∙ blocks-end u B L n prev a _ _
+
+  module _ (h : 0 < k) (first z : ℕ) (isF : first ≡ firstSlot es b) (isZ : z ≡ endAt L es b (k - 1)) where
+    some : left k ≡ left (suc (k - 1))
+    some = ap left (omega arith)
+
+    isF′ : first ≡ firstSlot (drop (8 * b) es) 0
+    isF′ = isF ∙ sym (first-at es b)
+
+    isZ′ : z ≡ endOf L (drop (8 * b) es) (k - 1)
+    isZ′ = isZ ∙ end-at L es b (k - 1)
+
+    -- the codes of block b
+    abbrev pub codesOfBlock : Block
+    codesOfBlock = readCodes u (min B n - 1) first (part cs a z)
+
+    pub turn-back : z < a → left k ≡ stop 7
+    turn-back l = some ∙ blocks-back u B L _ n prev a _ _ first z isF′ isZ′ l
+
+    module _ (l₁ : a ≤ z) where
+      pub turn-beyond : L < z → left k ≡ stop 7
+      turn-beyond l = some ∙ blocks-beyond u B L _ n prev a _ _ first z isF′ isZ′ l₁ l
+
+      module _ (l₂ : z ≤ L) where
+        pub turn-low : first ≤ prev → left k ≡ stop 9
+        turn-low l = some ∙ blocks-low u B L _ n prev a _ _ first z isF′ isZ′ l₁ l₂ l
+
+        module _ (l₃ : prev < first) where
+          pub turn-high : u < first → left k ≡ stop 9
+          turn-high l = some ∙ blocks-high u B L _ n prev a _ _ first z isF′ isZ′ l₁ l₂ l₃ l
+
+          module _ (l₄ : first ≤ u) where
+            pub turn-bad : ¬ (codesOfBlock .fault ≡ 0) → left k ≡ stop (codesOfBlock .fault)
+            turn-bad f = some ∙ blocks-bad u B L _ n prev a _ _ first z isF′ isZ′ l₁ l₂ l₃ l₄ f
+
+            entries-on : drop 8 (drop (8 * b) es) ≡ drop (8 * (b + 1)) es
+            entries-on = let e : 8 * b + 8 ≡ 8 * (b + 1) = omega arith in drop-drop 8 (8 * b) es ∙ ap (λ (i : ℕ). drop i es) e
+
+            codes-on : drop (z - a) (drop a cs) ≡ drop z cs
+            codes-on = let e : a + (z - a) ≡ z = omega arith in drop-drop (z - a) a cs ∙ ap (λ (i : ℕ). drop i cs) e
+
+            pub turn-next : codesOfBlock .fault ≡ 0
+                → left k
+                ≡ join (first ∷ codesOfBlock .slots) (readBlocks u B L (k - 1) (n - B) (lastOf first (codesOfBlock .slots)) z (drop (8 * (b + 1)) es) (drop z cs))
+            turn-next f = some ∙ blocks-next u B L _ n prev a _ _ first z isF′ isZ′ l₁ l₂ l₃ l₄ f ∙ rw (entries-on, codes-on)
+
+-- the whole tail: its first offset, then its blocks
+module _ (u B c n L : ℕ) (es cs : List ℕ) where
+  pub tail-offset : ¬ (offsetOf es 0 ≡ 0) → readTail u B c n L es cs ≡ stop 7
+  unfolding readTail
+  tail-offset f = simp (ne-eqb _ _ f)
+
+  pub tail-blocks : offsetOf es 0 ≡ 0 → readTail u B c n L es cs ≡ readBlocks u B L (blockCount B n) n c 0 es cs
+  unfolding readTail
+  tail-blocks e = simp (eq-eqb _ _ e)
