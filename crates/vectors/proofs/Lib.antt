@@ -1,0 +1,2 @@
+-- Cases of an independent implementation, held against the definitions under one claim.
+pub mod Cases
