@@ -5,3 +5,4 @@ pub mod Rows
 pub mod Table
 pub mod Readings
 pub mod Sizes
+pub mod Meets

@@ -32,10 +32,10 @@ behindBits r = drop (bitLength (cutOf r)) (drop 12 r)
 
 -- of what stands behind the bits, the skip entries of m blocks, and the code bytes
 abbrev pub entriesOf : ℕ → List ℕ → List ℕ
-entriesOf m r = take (8 * m) r
+entriesOf m behind = take (8 * m) behind
 
 abbrev pub codesOf : ℕ → List ℕ → List ℕ
-codesOf m r = drop (8 * m) r
+codesOf m behind = drop (8 * m) behind
 
 -- Bit x stands in this byte, at this digit of it: digit 7 is the top one, and bit 1 is the top bit of the first byte
 abbrev pub byteOf : ℕ → ℕ
@@ -54,9 +54,9 @@ bitAt bits x = eqb (digit (byteAt bits (byteOf x)) (digitOf x)) 1
 unfoldable pub slotsToCut : ℕ → List ℕ → List ℕ
 slotsToCut c bits = keep (bitAt bits) (upFrom 1 c)
 
--- the tail of a head that says c, n and L; r stands behind the bits
+-- the tail where the head says c, n and L, of what stands behind the bits; and the tail of a record
 unfoldable pub tailIn : ℕ → ℕ → ℕ → ℕ → ℕ → List ℕ → Tail
-tailIn u B c n L r = let m = blockCount B n in readTail u B c n L (entriesOf m r) (codesOf m r)
+tailIn u B c n L behind = let m = blockCount B n in readTail u B c n L (entriesOf m behind) (codesOf m behind)
 
 unfoldable pub tailOf : ℕ → ℕ → List ℕ → Tail
 tailOf u B r = tailIn u B (cutOf r) (tailCount r) (codeLength r) (behindBits r)
@@ -70,13 +70,13 @@ fault6 u B size c n L rest =
     (pick (eqb n 0 && ltb 0 L) 6
     (pick (eqb (12 + bitLength c + 8 * blockCount B n + L) size) rest 6)))
 
--- the tests of a record of some size, of which r stands behind the head: 6, then those of the tail
+-- the tests of a record of some size, given its head and what stands behind that: 6, then those of the tail
 unfoldable pub partsFault : ℕ → ℕ → ℕ → List ℕ → List ℕ → ℕ
-partsFault u B size head r =
+partsFault u B size head behind =
     let c = cutOf head in
     let n = tailCount head in
     let L = codeLength head in
-    let tail = tailIn u B c n L (drop (bitLength c) r) .fault in
+    let tail = tailIn u B c n L (drop (bitLength c) behind) .fault in
     fault6 u B size c n L tail
 
 unfoldable pub recordFault : ℕ → ℕ → List ℕ → ℕ

@@ -1,0 +1,42 @@
+-- An answer that the paper gives, for each operation, meets that operation's promise, and the promise is more than its number: each is one
+-- equation of the whole answer and of every lent buffer.
+use Prim.Native.Nat.{ℕ}
+use mathlib.Core.Path.{_≡_, refl}
+use mathlib.Core.Bool.{true}
+use mathlib.Core.List.{List, [], _∷_, _++_}
+use lib.ListN.{replicate}
+use Rattle.paper.specs.Refusal.{verdict}
+use Rattle.paper.specs.Look.{MeetsLook}
+use Rattle.paper.specs.Ask.{MeetsAsk}
+use Rattle.paper.specs.OneList.{MeetsTest, MeetsCount, MeetsLend, MeetsPart}
+use Rattle.paper.specs.Write.{MeetsWrite}
+use Rattle.paper.specs.Close.{MeetsClose}
+use Rattle.paper.proofs.Hex.{hex, list0, list1, index, slots0, slots1}
+use Rattle.paper.proofs.Open.{opened}
+
+abbrev room : ℕ → List ℕ
+room n = replicate n 9
+
+pub record Met : Type 0 where
+  pub look : MeetsLook index (verdict 0 0)
+  pub ask : MeetsAsk index 1 (0 ∷ 1 ∷ []) (room 8) (record { number = 0; place = 0; count = 5; looks = 9; codes = 14 }) (5 ∷ 12 ∷ 16 ∷ 26 ∷ 30 ∷ 0 ∷ 0 ∷ 0 ∷ [])
+  pub test : MeetsTest index 0 30 (record { number = 0; place = 0; yes = true })
+  pub count : MeetsCount index 1 (record { number = 0; place = 0; count = 7 })
+  pub lend : MeetsLend index 1 list1
+  pub part : MeetsPart index 1 (record { number = 0; place = 0; start = 55; length = 24 })
+  pub write : MeetsWrite 32 4 0 slots0 (room 57) (record { number = 0; place = 0; length = 55 }) (list0 ++ room 2)
+  pub close : MeetsClose (list0 ++ list1 ++ room 32) 32 4 79 (0 ∷ 55 ∷ []) (record { number = 0; place = 0; length = 111 }) index
+
+pub met : Met
+unfolding opened
+met =
+    record {
+      look = refl;
+      ask = record { answers = refl; leaves = refl };
+      test = refl;
+      count = refl;
+      lend = refl;
+      part = refl;
+      write = record { answers = refl; leaves = refl };
+      close = record { answers = refl; leaves = refl };
+    }

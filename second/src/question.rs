@@ -1,0 +1,216 @@
+//! Questions to an index: intersecting lists, testing a slot, counting a list
+//! and lending its record.
+
+use crate::answer::{Answer, Counted, Part, Tested, Verdict};
+use crate::code;
+use crate::look::{open, Index};
+use crate::record::Record;
+use crate::search::search;
+use crate::MOST_NAMES;
+
+const PLAIN: u32 = 0;
+const SKIPS: u32 = 1;
+
+/// What searching in the list of one position of the question has cost.
+#[derive(Clone, Copy, Default)]
+struct Cost {
+    looks: u64,
+    codes: u64,
+}
+
+/// The slots in common, with the cost of each position as asked.
+struct Found {
+    slots: Vec<u32>,
+    costs: Vec<Cost>,
+}
+
+/// Puts the slots that stand in every named list at the front of `slots` and
+/// zeros behind them.
+pub fn ask(index: &[u8], way: u32, names: &[u32], slots: &mut [u32]) -> Answer {
+    let lists = match judge(index, way, names, slots.len()) {
+        Ok(lists) => lists,
+        Err(refusal) => return refusal.into(),
+    };
+    let found = if way == PLAIN {
+        plainly(&lists)
+    } else {
+        by_skips(&lists)
+    };
+    slots.fill(0);
+    slots[..found.slots.len()].copy_from_slice(&found.slots);
+    Answer {
+        number: 0,
+        place: 0,
+        count: found.slots.len() as u32,
+        looks: found.costs.iter().map(|cost| cost.looks).sum(),
+        codes: found.costs.iter().map(|cost| cost.codes).sum(),
+    }
+}
+
+/// The checks of a question: the index, 14, 10, 11 and 12. Gives the records in
+/// the order named.
+fn judge<'a>(
+    index: &'a [u8],
+    way: u32,
+    names: &[u32],
+    room: usize,
+) -> Result<Vec<Record<'a>>, Verdict> {
+    let index = open(index)?;
+    if way != PLAIN && way != SKIPS {
+        return Err(Verdict::plain(14));
+    }
+    if names.is_empty() || names.len() > MOST_NAMES {
+        return Err(Verdict::plain(10));
+    }
+    let mut lists = Vec::new();
+    for (position, &name) in names.iter().enumerate() {
+        lists.push(index.records[named(&index, name, position)?]);
+    }
+    let needed = lists.iter().map(Record::count).min().unwrap_or(0);
+    if (room as u64) < u64::from(needed) {
+        return Err(Verdict::at(12, needed));
+    }
+    Ok(lists)
+}
+
+/// The list that a name at some position means, or 11.
+fn named(index: &Index, name: u32, position: usize) -> Result<usize, Verdict> {
+    if (name as usize) < index.records.len() {
+        Ok(name as usize)
+    } else {
+        Err(Verdict::at(11, position as u32))
+    }
+}
+
+/// The intersection taken from the decoded lists as sets.
+fn plainly(lists: &[Record]) -> Found {
+    let mut common = lists[0].slots();
+    for list in &lists[1..] {
+        let slots = list.slots();
+        common.retain(|x| slots.binary_search(x).is_ok());
+    }
+    Found {
+        slots: common,
+        costs: vec![Cost::default(); lists.len()],
+    }
+}
+
+/// The intersection by searching for the slots of the smallest list.
+fn by_skips(lists: &[Record]) -> Found {
+    let mut order: Vec<usize> = (0..lists.len()).collect();
+    order.sort_by_key(|&position| (lists[position].count(), position));
+
+    let mut candidates = lists[order[0]].slots();
+    let mut costs = vec![Cost::default(); lists.len()];
+    for &position in &order[1..] {
+        let (kept, cost) = sift(&lists[position], &candidates);
+        candidates = kept;
+        costs[position] = cost;
+    }
+    Found {
+        slots: candidates,
+        costs,
+    }
+}
+
+/// The candidates that one list holds, and what finding them has cost.
+fn sift(list: &Record, candidates: &[u32]) -> (Vec<u32>, Cost) {
+    let m = list.blocks() as u32;
+    let entry = |position: u32| list.first(position as usize - 1);
+
+    let mut kept = Vec::new();
+    let mut cost = Cost::default();
+    let mut finger = 0;
+    for &x in candidates {
+        let holds = if x <= list.cut {
+            list.bit(x)
+        } else {
+            let (j, looks) = search(entry, m, finger, x);
+            finger = j;
+            cost.looks += looks;
+            if j == 0 {
+                false
+            } else {
+                let (holds, codes) = read_block(list, j as usize - 1, x);
+                cost.codes += codes;
+                holds
+            }
+        };
+        if holds {
+            kept.push(x);
+        }
+    }
+    (kept, cost)
+}
+
+/// Reads one block as far as needed to tell whether it holds `x`; also gives
+/// how many codes were read.
+fn read_block(list: &Record, b: usize, x: u32) -> (bool, u64) {
+    let mut slot = list.first(b);
+    let mut rest = list.codes_of(b);
+    let mut codes = 0;
+    while slot < x {
+        let Some((value, used)) = code::read(rest) else {
+            break;
+        };
+        codes += 1;
+        slot += value + 1;
+        rest = &rest[used..];
+    }
+    (slot == x, codes)
+}
+
+/// The checks that testing, counting and lending share: the index and 11.
+fn chosen(index: &[u8], name: u32) -> Result<(Index<'_>, usize), Verdict> {
+    let index = open(index)?;
+    let i = named(&index, name, 0)?;
+    Ok((index, i))
+}
+
+/// Tells whether a list holds a slot.
+pub fn test(index: &[u8], name: u32, slot: u32) -> Tested {
+    let (index, i) = match chosen(index, name) {
+        Ok(list) => list,
+        Err(refusal) => return refusal.into(),
+    };
+    if slot < 1 || slot > index.u {
+        return Verdict::plain(16).into();
+    }
+    Tested {
+        number: 0,
+        place: 0,
+        yes: index.records[i].slots().binary_search(&slot).is_ok(),
+    }
+}
+
+/// Tells how many slots a list holds.
+pub fn count(index: &[u8], name: u32) -> Counted {
+    match chosen(index, name) {
+        Ok((index, i)) => Counted {
+            number: 0,
+            place: 0,
+            count: index.records[i].count(),
+        },
+        Err(refusal) => refusal.into(),
+    }
+}
+
+/// Tells where a list's record lies in the index.
+pub fn part(index: &[u8], name: u32) -> Part {
+    match chosen(index, name) {
+        Ok((index, i)) => Part {
+            number: 0,
+            place: 0,
+            start: index.spans[i].0 as u32,
+            length: index.spans[i].1 as u32,
+        },
+        Err(refusal) => refusal.into(),
+    }
+}
+
+/// Lends a list's record, or nothing at all.
+pub fn lend(index: &[u8], name: u32) -> &[u8] {
+    let lying = part(index, name);
+    let start = lying.start as usize;
+    &index[start..start + lying.length as usize]
+}

@@ -1,0 +1,16 @@
+//! All tests that go through the public operations. What is expected stands in
+//! the paper or follows from it by hand; nothing is taken from a run.
+#![forbid(unsafe_code)]
+
+mod cases;
+mod closing;
+mod examples;
+mod further;
+mod large;
+mod model;
+mod printing;
+mod properties;
+mod searching;
+mod table;
+mod tools;
+mod writing;

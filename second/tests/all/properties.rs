@@ -1,0 +1,486 @@
+//! What holds for every input, tried on pseudo-random ones.
+
+use crate::model;
+use crate::tools::*;
+use second::random::Random;
+use second::{ask, close, count, lend, look, part, test, write, Verdict};
+use std::collections::BTreeSet;
+
+/// Lists with their sizes, before they are packed.
+struct Lists {
+    u: u32,
+    block: u32,
+    lists: Vec<(u32, Vec<u32>)>,
+}
+
+fn some_lists(random: &mut Random) -> Lists {
+    let u = match random.below(4) {
+        0 => random.between(1, 20),
+        1 => random.between(20, 300),
+        2 => random.between(300, 40_000),
+        _ => random.between(40_000, 1_048_576),
+    };
+    let block = match random.below(3) {
+        0 => 1,
+        1 => random.between(2, 6),
+        _ => random.between(7, 128),
+    };
+    let mut lists: Vec<(u32, Vec<u32>)> = Vec::new();
+    for _ in 0..random.between(1, 5) {
+        let many = random.below(u.min(80) + 1);
+        let mut slots: BTreeSet<u32> = random.ascending(many, 1, u).into_iter().collect();
+        // Share some slots with an earlier list, and some of their neighbours.
+        if let Some((_, earlier)) = lists.last() {
+            for &slot in earlier {
+                match random.below(4) {
+                    0 => slots.insert(slot),
+                    1 => slots.insert(slot % u + 1),
+                    _ => false,
+                };
+            }
+        }
+        let cut = match random.below(5) {
+            0 | 1 => 0,
+            2 => u.min(5_000),
+            _ => random.between(0, u.min(5_000)),
+        };
+        lists.push((cut, slots.into_iter().collect()));
+    }
+    Lists { u, block, lists }
+}
+
+/// Packs lists, at times with bits set behind the cut.
+fn pack(random: &mut Random, given: &Lists) -> Vec<Vec<u8>> {
+    let mut records = Vec::new();
+    for (cut, slots) in &given.lists {
+        let mut record = written(given.u, given.block, *cut, slots);
+        if cut % 8 != 0 && random.below(2) == 0 {
+            let last = 12 + *cut as usize / 8;
+            record[last] |= random.byte() & (0xFF >> (cut % 8));
+        }
+        records.push(record);
+    }
+    records
+}
+
+fn intersection(given: &Lists, names: &[u32]) -> Vec<u32> {
+    let set =
+        |name: u32| -> BTreeSet<u32> { given.lists[name as usize].1.iter().copied().collect() };
+    let mut common = set(names[0]);
+    for &name in &names[1..] {
+        common = common.intersection(&set(name)).copied().collect();
+    }
+    common.into_iter().collect()
+}
+
+fn some_names(random: &mut Random, given: &Lists) -> Vec<u32> {
+    let most = if random.below(8) == 0 { 16 } else { 4 };
+    let many = random.between(1, most);
+    let k = given.lists.len() as u32;
+    (0..many).map(|_| random.below(k)).collect()
+}
+
+#[test]
+fn written_lists_read_back() {
+    let mut random = Random::new(11);
+    for _ in 0..600 {
+        let given = some_lists(&mut random);
+        let records = pack(&mut random, &given);
+        let index = join(given.u, given.block, &records);
+        looks_like(&index, 0, 0);
+        let modelled = model::read(&index);
+        for (i, (cut, slots)) in given.lists.iter().enumerate() {
+            let name = i as u32;
+            assert_eq!(modelled.lists[i].slots(), *slots);
+            assert_eq!(modelled.lists[i].cut, *cut);
+            answers(&index, 0, &[name], slots.len(), slots, (0, 0));
+            answers(&index, 1, &[name], slots.len() + 3, slots, (0, 0));
+            assert_eq!(count(&index, name), counted(0, 0, slots.len() as u32));
+            assert_eq!(lend(&index, name), records[i]);
+            for _ in 0..10 {
+                let slot = random.between(1, given.u);
+                let held = slots.contains(&slot);
+                assert_eq!(test(&index, name, slot), tested(0, 0, held));
+            }
+            for &slot in slots.iter().take(10) {
+                assert_eq!(test(&index, name, slot), tested(0, 0, true));
+            }
+        }
+    }
+}
+
+#[test]
+fn closing_gives_what_looking_accepts() {
+    let mut random = Random::new(12);
+    for _ in 0..400 {
+        let given = some_lists(&mut random);
+        let records = pack(&mut random, &given);
+        let index = join(given.u, given.block, &records);
+        let mut starts = Vec::new();
+        let mut total = 0;
+        for record in &records {
+            starts.push(total as u32);
+            total += record.len();
+        }
+        let spare = random.below(9) as usize;
+        let mut room = [records.concat(), vec![DUST; index.len() - total + spare]].concat();
+        let before = room.clone();
+
+        let short = room.len() - spare - 1;
+        let answer = close(
+            &mut room[..short],
+            given.u,
+            given.block,
+            total as u32,
+            &starts,
+        );
+        assert_eq!(answer, wrote(12, index.len() as u32, 0));
+        assert_eq!(room, before);
+
+        let answer = close(&mut room, given.u, given.block, total as u32, &starts);
+        assert_eq!(answer, wrote(0, 0, index.len() as u32));
+        assert_eq!(room[..index.len()], index);
+        assert_eq!(room[index.len()..], before[index.len()..]);
+        looks_like(&room[..index.len()], 0, 0);
+    }
+}
+
+#[test]
+fn both_ways_give_the_intersection() {
+    let mut random = Random::new(13);
+    let mut whole = 0;
+    for _ in 0..1_500 {
+        let given = some_lists(&mut random);
+        let records = pack(&mut random, &given);
+        let index = join(given.u, given.block, &records);
+        let names = some_names(&mut random, &given);
+        let common = intersection(&given, &names);
+        whole += common.len();
+        let needed = names
+            .iter()
+            .map(|&name| given.lists[name as usize].1.len())
+            .min()
+            .unwrap();
+        let room = needed + random.below(4) as usize;
+
+        answers(&index, 0, &names, room, &common, (0, 0));
+        let (told, visits) = model::question(&model::read(&index), &names);
+        assert_eq!(told, common);
+        let looks: u64 = visits.iter().map(|visit| visit.looks()).sum();
+        let codes: u64 = visits.iter().map(|visit| visit.codes()).sum();
+        answers(&index, 1, &names, room, &common, (looks, codes));
+
+        // The bounds: one search, one name, and the codes of a search.
+        for visit in &visits {
+            let q = visit.steps.len() as u64;
+            assert!(visit.looks() <= q + 2 * visit.blocks as u64);
+            assert!(visit.codes() <= q * u64::from(given.block - 1));
+            for step in &visit.steps {
+                let d = (step.told.j - step.finger) as u64;
+                let digits = u64::from(64 - d.leading_zeros());
+                assert!(step.told.looks() <= (2 * digits).max(1));
+            }
+        }
+
+        if needed > 0 {
+            refuses(&index, 0, &names, needed - 1, 12, needed as u32);
+            refuses(&index, 1, &names, needed - 1, 12, needed as u32);
+        }
+    }
+    assert!(whole > 1_000);
+}
+
+#[test]
+fn the_order_of_names_does_not_change_the_slots() {
+    let mut random = Random::new(14);
+    for _ in 0..300 {
+        let given = some_lists(&mut random);
+        let index = join(given.u, given.block, &pack(&mut random, &given));
+        let mut names = some_names(&mut random, &given);
+        let common = intersection(&given, &names);
+        for way in [0, 1] {
+            names.rotate_left(1);
+            let mut slots = vec![OLD; 200];
+            let answer = ask(&index, way, &names, &mut slots);
+            assert_eq!((answer.number, answer.count as usize), (0, common.len()));
+            assert_eq!(slots[..common.len()], common);
+        }
+    }
+}
+
+#[test]
+fn the_packing_does_not_change_the_slots() {
+    let mut random = Random::new(15);
+    for _ in 0..300 {
+        let mut given = some_lists(&mut random);
+        let names = some_names(&mut random, &given);
+        let common = intersection(&given, &names);
+        for _ in 0..3 {
+            for (cut, _) in &mut given.lists {
+                *cut = random.between(0, given.u.min(3_000));
+            }
+            given.block = random.between(1, 128);
+            let index = join(given.u, given.block, &pack(&mut random, &given));
+            let mut slots = vec![OLD; 200];
+            let answer = ask(&index, 1, &names, &mut slots);
+            assert_eq!((answer.number, answer.count as usize), (0, common.len()));
+            assert_eq!(slots[..common.len()], common);
+        }
+    }
+}
+
+#[test]
+fn only_the_named_records_matter() {
+    let mut random = Random::new(16);
+    for _ in 0..200 {
+        let given = some_lists(&mut random);
+        let records = pack(&mut random, &given);
+        let index = join(given.u, given.block, &records);
+        let names = some_names(&mut random, &given);
+
+        // The named records alone, once for each position, behind a stranger.
+        let slot = random.between(1, given.u);
+        let mut others = vec![written(given.u, given.block, 0, &[slot])];
+        others.extend(names.iter().map(|&name| records[name as usize].clone()));
+        let other = join(given.u, given.block, &others);
+        let renamed: Vec<u32> = (1..=names.len() as u32).collect();
+
+        for way in [0, 1] {
+            let room = random.below(120) as usize;
+            let mut slots = vec![OLD; room];
+            let mut same = slots.clone();
+            let answer = ask(&index, way, &names, &mut slots);
+            assert_eq!(ask(&other, way, &renamed, &mut same), answer);
+            assert_eq!(slots, same);
+        }
+    }
+}
+
+/// Runs every operation on some bytes. What is refused must change nothing, and
+/// what is accepted must be what writing and closing would have made.
+fn examine(index: &[u8]) -> bool {
+    let verdict = look(index);
+    let old = vec![OLD; 40];
+    for way in [0, 1] {
+        for names in [&[0][..], &[0, 1], &[1, 0, 0]] {
+            let mut slots = old.clone();
+            let answer = ask(index, way, names, &mut slots);
+            if verdict.number != 0 {
+                assert_eq!(
+                    (answer.number, answer.place),
+                    (verdict.number, verdict.place)
+                );
+            }
+            if answer.number != 0 {
+                assert_eq!((answer.count, answer.looks, answer.codes), (0, 0, 0));
+                assert_eq!(slots, old);
+            }
+        }
+    }
+    if verdict.number != 0 {
+        let Verdict { number, place } = verdict;
+        assert_eq!(test(index, 0, 1), tested(number, place, false));
+        assert_eq!(count(index, 0), counted(number, place, 0));
+        assert_eq!(part(index, 0), lies(number, place, 0, 0));
+        assert!(lend(index, 0).is_empty());
+        return false;
+    }
+
+    let modelled = model::read(index);
+    let mut records = Vec::new();
+    for (i, list) in modelled.lists.iter().enumerate() {
+        let name = i as u32;
+        assert_eq!(count(index, name), counted(0, 0, list.count() as u32));
+        let mut record = written(modelled.u, modelled.block as u32, list.cut, &list.slots());
+        let lent = lend(index, name);
+        if list.cut % 8 != 0 {
+            let last = 12 + list.cut as usize / 8;
+            record[last] |= lent[last] & (0xFF >> (list.cut % 8));
+        }
+        assert_eq!(lent, record);
+        records.push(record);
+    }
+    let mut slots = vec![OLD; 1_000];
+    let names = [0, modelled.lists.len() as u32 - 1];
+    let answer = ask(index, 1, &names, &mut slots);
+    let (common, visits) = model::question(&modelled, &names);
+    assert_eq!(slots[..common.len()], common);
+    assert_eq!(answer.looks, visits[0].looks());
+    assert_eq!(answer.codes, visits[0].codes());
+    assert_eq!(index, join(modelled.u, modelled.block as u32, &records));
+    true
+}
+
+#[test]
+fn any_byte_of_the_papers_index_damaged() {
+    let index = paper();
+    let mut accepted = 0;
+    for at in 0..index.len() {
+        for value in 0..=255 {
+            accepted += usize::from(examine(&poke(&index, at, value)));
+        }
+    }
+    // Each byte once as it stands, and more.
+    assert!(accepted > index.len());
+}
+
+#[test]
+fn any_byte_of_other_indexes_damaged() {
+    let mut random = Random::new(17);
+    for _ in 0..40 {
+        let mut given = some_lists(&mut random);
+        given.u = given.u.min(900);
+        for (cut, slots) in &mut given.lists {
+            *cut = (*cut).min(given.u);
+            slots.retain(|&slot| slot <= given.u);
+        }
+        let index = join(given.u, given.block, &pack(&mut random, &given));
+        for at in 0..index.len() {
+            for _ in 0..6 {
+                examine(&poke(&index, at, random.byte()));
+            }
+        }
+    }
+}
+
+#[test]
+fn bytes_lost_added_and_moved() {
+    let mut random = Random::new(18);
+    let index = paper();
+    for at in 0..index.len() {
+        let mut bytes = index.clone();
+        bytes.remove(at);
+        assert!(!examine(&bytes));
+        let mut bytes = index.clone();
+        bytes.insert(at, random.byte());
+        assert!(!examine(&bytes));
+        examine(&index[at..]);
+        examine(&index[..at]);
+    }
+    for _ in 0..3_000 {
+        let mut bytes = index.clone();
+        for _ in 0..random.between(2, 5) {
+            let from = random.below(111) as usize;
+            let to = random.below(111) as usize;
+            bytes[to] = index[from];
+        }
+        examine(&bytes);
+    }
+}
+
+#[test]
+fn any_bytes_before_a_sound_trailer() {
+    let mut random = Random::new(19);
+    for _ in 0..3_000 {
+        let k = random.between(1, 3);
+        let length = random.below(60);
+        let mut records = vec![vec![0; 12]; k as usize];
+        for record in &mut records {
+            for at in [0, 4, 8] {
+                record[at] = random.below(4) as u8;
+            }
+            let many = random.below(30) as usize;
+            record.extend(random.bytes(many));
+        }
+        let mut index = join(random.between(1, 40), random.between(1, 4), &records);
+        examine(&index);
+        let at = random.below(index.len() as u32) as usize;
+        index.truncate(at.max(length as usize));
+        examine(&index);
+    }
+}
+
+#[test]
+fn any_write_is_answered() {
+    let mut random = Random::new(20);
+    let odd = |random: &mut Random, high: u32| match random.below(6) {
+        0 => 0,
+        1 => WILD - random.below(3),
+        2 => high + random.below(3),
+        _ => random.between(1, high),
+    };
+    let mut refused = 0;
+    for _ in 0..5_000 {
+        let u = if random.below(5) == 0 {
+            odd(&mut random, 1_048_576)
+        } else {
+            60
+        };
+        let block = if random.below(5) == 0 {
+            odd(&mut random, 128)
+        } else {
+            3
+        };
+        let cut = odd(&mut random, 60);
+        let many = random.below(12);
+        let mut slots = random.ascending(many, 1, 60);
+        if many > 0 && random.below(4) == 0 {
+            let at = random.below(many) as usize;
+            slots[at] = odd(&mut random, 60);
+        }
+        let room = random.below(80) as usize;
+        let before = random.bytes(room);
+        let mut after = before.clone();
+        let answer = write(u, block, cut, &slots, &mut after);
+        if answer.number != 0 {
+            assert_eq!(answer.length, 0);
+            assert_eq!(before, after);
+            refused += 1;
+            continue;
+        }
+        let length = answer.length as usize;
+        assert_eq!(answer.place, 0);
+        assert_eq!(before[length..], after[length..]);
+        let index = join(u, block, &[after[..length].to_vec()]);
+        answers(&index, 0, &[0], slots.len(), &slots, (0, 0));
+        // With one byte less it is refused, and tells the length.
+        let mut less = before[..length - 1].to_vec();
+        let answer = write(u, block, cut, &slots, &mut less);
+        assert_eq!(answer, wrote(12, length as u32, 0));
+        assert_eq!(less, before[..length - 1]);
+    }
+    assert!((1_000..4_500).contains(&refused));
+}
+
+#[test]
+fn any_close_is_answered() {
+    let mut random = Random::new(21);
+    let mut refused = 0;
+    for _ in 0..5_000 {
+        let records = [paper_0(), paper_1(), vec![0; 12]];
+        let many = random.between(1, 3) as usize;
+        let mut starts = [0, 55, 79][..many].to_vec();
+        let mut total = [55, 79, 91][many - 1];
+        let behind = random.below(60) as usize;
+        let mut room = records[..many].concat();
+        room.extend(random.bytes(behind));
+        let (mut u, mut block) = (32, 4);
+        match random.below(8) {
+            0 => u = random.below(64),
+            1 => block = random.below(8),
+            2 => total = total - 2 + random.below(5),
+            3 => starts[many - 1] = random.below(92),
+            4 => total = WILD - random.below(60),
+            5 => {
+                let at = random.below(room.len() as u32) as usize;
+                room[at] = random.byte();
+            }
+            _ => {}
+        }
+        let before = room.clone();
+        let answer = close(&mut room, u, block, total, &starts);
+        if answer.number != 0 {
+            assert_eq!(answer.length, 0);
+            assert_eq!(before, room);
+            refused += 1;
+            continue;
+        }
+        let length = answer.length as usize;
+        let total = total as usize;
+        assert_eq!(length, total + 4 * many + 24);
+        assert_eq!(before[..total], room[..total]);
+        assert_eq!(before[length..], room[length..]);
+        looks_like(&room[..length], 0, 0);
+    }
+    assert!((1_000..4_500).contains(&refused));
+}
