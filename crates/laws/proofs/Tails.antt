@@ -1,5 +1,5 @@
 -- The blocks of a tail, step by step: what is left to read after one block, over `suc k`; then over `0 < k` and positions, as a loop that
--- counts down has it: entries are left from block b on, code bytes from offset a on.
+-- counts down has it: entries are left from byte e on, code bytes from offset a on.
 use Prim.Native.Nat.{ℕ, zero, suc, _+_, _-_, _*_, _≤_, _<_, min}
 use mathlib.Core.Path.{_≡_, refl, sym, ap, _∙_}
 use mathlib.Core.List.{List, _∷_}
@@ -55,41 +55,37 @@ module _ (u B L : ℕ) where
             unfolding readBlocks
             blocks-next f = simp (← isF, ← isZ, le-ltb _ _ l₁, le-ltb _ _ l₂, lt-leb _ _ l₃, le-ltb _ _ l₄, eq-eqb _ _ f)
 
--- an entry by the number of its block
-pub first-at : (es : List ℕ) (b : ℕ) → firstSlot (drop (8 * b) es) 0 ≡ firstSlot es b
-first-at es b = word-drop (8 * b) es 0 ∙ ap (u32At es) (omega arith)
+-- the entry at byte e of the entries, and where its block's codes end, k blocks being behind it
+pub first-at : (es : List ℕ) (e : ℕ) → firstSlot (drop e es) 0 ≡ u32At es e
+first-at es e = word-drop e es 0 ∙ ap (u32At es) (omega arith)
 
-pub offset-at : (es : List ℕ) (b d : ℕ) → offsetOf (drop (8 * b) es) d ≡ offsetOf es (b + d)
-offset-at es b d = word-drop (8 * b) es (8 * d + 4) ∙ ap (u32At es) (omega arith)
-
--- where the codes of block b end, k blocks being behind it
 abbrev pub endAt : ℕ → List ℕ → ℕ → ℕ → ℕ
-endAt L es b k = pick (eqb k 0) L (offsetOf es (b + 1))
+endAt L es e k = pick (eqb k 0) L (u32At es (e + 12))
 
-pub end-at : (L : ℕ) (es : List ℕ) (b k : ℕ) → endAt L es b k ≡ endOf L (drop (8 * b) es) k
-end-at L es b k = ap (pick (eqb k 0) L) (sym (offset-at es b 1))
+pub end-at : (L : ℕ) (es : List ℕ) (e k : ℕ) → endAt L es e k ≡ endOf L (drop e es) k
+end-at L es e k = ap (pick (eqb k 0) L) (sym (word-drop e es 12))
 
--- k blocks with n slots are left, from block b and offset a on
-module _ (u B L k n prev b a : ℕ) (es cs : List ℕ) where
+-- k blocks with n slots are left: their entries from byte e on, their codes from offset a on
+module _ (u B L k n prev e a : ℕ) (es cs : List ℕ) where
   abbrev left : ℕ → Tail
-  left m = readBlocks u B L m n prev a (drop (8 * b) es) (drop a cs)
+  left m = readBlocks u B L m n prev a (drop e es) (drop a cs)
 
   pub turn-end : k ≤ 0 → left k ≡ stop 0
   turn-end h = let z : k ≡ 0 = omega arith in ap left z ∙ blocks-end u B L n prev a _ _
 
-  module _ (h : 0 < k) (first z : ℕ) (isF : first ≡ firstSlot es b) (isZ : z ≡ endAt L es b (k - 1)) where
+  module _ (h : 0 < k) (first z : ℕ) (isF : first ≡ u32At es e) (isZ : z ≡ endAt L es e (k - 1)) where
     some : left k ≡ left (suc (k - 1))
     some = ap left (omega arith)
 
-    isF′ : first ≡ firstSlot (drop (8 * b) es) 0
-    isF′ = isF ∙ sym (first-at es b)
+    isF′ : first ≡ firstSlot (drop e es) 0
+    isF′ = isF ∙ sym (first-at es e)
 
-    isZ′ : z ≡ endOf L (drop (8 * b) es) (k - 1)
-    isZ′ = isZ ∙ end-at L es b (k - 1)
+    isZ′ : z ≡ endOf L (drop e es) (k - 1)
+    isZ′ = isZ ∙ end-at L es e (k - 1)
 
-    -- the codes of block b
-    abbrev pub codesOfBlock : Block
-    codesOfBlock = readCodes u (min B n - 1) first (part cs a z)
+    -- the codes of that block
+    abbrev pub blockRead : Block
+    blockRead = readCodes u (min B n - 1) first (part cs a z)
 
     pub turn-back : z < a → left k ≡ stop 7
     turn-back l = some ∙ blocks-back u B L _ n prev a _ _ first z isF′ isZ′ l
@@ -107,19 +103,15 @@ module _ (u B L k n prev b a : ℕ) (es cs : List ℕ) where
           turn-high l = some ∙ blocks-high u B L _ n prev a _ _ first z isF′ isZ′ l₁ l₂ l₃ l
 
           module _ (l₄ : first ≤ u) where
-            pub turn-bad : ¬ (codesOfBlock .fault ≡ 0) → left k ≡ stop (codesOfBlock .fault)
+            pub turn-bad : ¬ (blockRead .fault ≡ 0) → left k ≡ stop (blockRead .fault)
             turn-bad f = some ∙ blocks-bad u B L _ n prev a _ _ first z isF′ isZ′ l₁ l₂ l₃ l₄ f
 
-            entries-on : drop 8 (drop (8 * b) es) ≡ drop (8 * (b + 1)) es
-            entries-on = let e : 8 * b + 8 ≡ 8 * (b + 1) = omega arith in drop-drop 8 (8 * b) es ∙ ap (λ (i : ℕ). drop i es) e
-
             codes-on : drop (z - a) (drop a cs) ≡ drop z cs
-            codes-on = let e : a + (z - a) ≡ z = omega arith in drop-drop (z - a) a cs ∙ ap (λ (i : ℕ). drop i cs) e
+            codes-on = let on : a + (z - a) ≡ z = omega arith in drop-drop (z - a) a cs ∙ ap (λ (i : ℕ). drop i cs) on
 
-            pub turn-next : codesOfBlock .fault ≡ 0
-                → left k
-                ≡ join (first ∷ codesOfBlock .slots) (readBlocks u B L (k - 1) (n - B) (lastOf first (codesOfBlock .slots)) z (drop (8 * (b + 1)) es) (drop z cs))
-            turn-next f = some ∙ blocks-next u B L _ n prev a _ _ first z isF′ isZ′ l₁ l₂ l₃ l₄ f ∙ rw (entries-on, codes-on)
+            pub turn-next : blockRead .fault ≡ 0
+                → left k ≡ join (first ∷ blockRead .slots) (readBlocks u B L (k - 1) (n - B) (lastOf first (blockRead .slots)) z (drop (e + 8) es) (drop z cs))
+            turn-next f = some ∙ blocks-next u B L _ n prev a _ _ first z isF′ isZ′ l₁ l₂ l₃ l₄ f ∙ rw (drop-drop 8 e es, codes-on)
 
 -- the whole tail: its first offset, then its blocks
 module _ (u B c n L : ℕ) (es cs : List ℕ) where

@@ -1,21 +1,16 @@
--- An answer that the paper gives, for each operation, meets that operation's promise, and the promise is more than its number: each is one
--- equation of the whole answer and of every lent buffer.
-use Prim.Native.Nat.{ℕ}
-use mathlib.Core.Path.{_≡_, refl}
+-- For each operation, an answer that the paper gives meets the operation's promise. A promise fixes the whole answer and every lent buffer.
+use mathlib.Core.Path.{refl}
 use mathlib.Core.Bool.{true}
-use mathlib.Core.List.{List, [], _∷_, _++_}
-use lib.ListN.{replicate}
+use mathlib.Core.List.{[], _∷_, _++_}
 use Rattle.paper.specs.Refusal.{verdict}
 use Rattle.paper.specs.Look.{MeetsLook}
 use Rattle.paper.specs.Ask.{MeetsAsk}
 use Rattle.paper.specs.OneList.{MeetsTest, MeetsCount, MeetsLend, MeetsPart}
 use Rattle.paper.specs.Write.{MeetsWrite}
 use Rattle.paper.specs.Close.{MeetsClose}
-use Rattle.paper.proofs.Hex.{hex, list0, list1, index, slots0, slots1}
+use Rattle.paper.proofs.Hex.{list0, list1, index, slots0}
 use Rattle.paper.proofs.Open.{opened}
-
-abbrev room : ℕ → List ℕ
-room n = replicate n 9
+use Rattle.paper.proofs.Rows.{room}
 
 pub record Met : Type 0 where
   pub look : MeetsLook index (verdict 0 0)

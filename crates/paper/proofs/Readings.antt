@@ -11,7 +11,7 @@ use Rattle.paper.specs.Write.{encode}
 use Rattle.paper.specs.Close.{frameBytes}
 use Rattle.paper.proofs.Hex.{hex, list0, list1, index, slots0, slots1}
 use Rattle.paper.proofs.Open.{opened}
-use Rattle.paper.proofs.Rows.{Row, failing, judged, joined}
+use Rattle.paper.proofs.Rows.{Row, room, failing, judged, joined}
 use Rattle.paper.proofs.Rows.Row.{
   looking,
   asking,
@@ -27,14 +27,10 @@ use Rattle.paper.proofs.Rows.Row.{
   uncoding,
   checking,
   searching,
-  seeking,
+  trying,
 }
 
--- a lent slice or buffer of n places that hold rubbish
-abbrev room : ℕ → List ℕ
-room n = replicate n 9
-
--- an index of records, sound or not
+-- where records that lie one behind the other start, from a on; and an index of records, sound or not
 abbrev startsOf : ℕ → List (List ℕ) → List ℕ
 startsOf a [] = []
 startsOf a (r ∷ rs) = a ∷ startsOf (a + length r) rs
@@ -130,6 +126,9 @@ looking-rows =
     (220, looking (with 83 79) (5 ∷ 0 ∷ [])) ∷
     (221, looking (with 83 80) (5 ∷ 0 ∷ [])) ∷
     (222, looking (set (with 83 68) 0 33) (5 ∷ 0 ∷ [])) ∷
+    (223, looking (replicate 16 0 ++ hex 24 0x01000000_20000000_04000000_00100000_10C0FFFF_534C4F54) (5 ∷ 0 ∷ [])) ∷
+    (224, looking (set (with 87 2) 99 0) (3 ∷ 0 ∷ [])) ∷
+    (225, looking (set (with 99 1) 100 0x10) (4 ∷ 0 ∷ [])) ∷
     (251, looking (with 0 33) (6 ∷ 0 ∷ [])) ∷
     (252, looking (with 59 17) (6 ∷ 1 ∷ [])) ∷
     (253, looking (with 63 3) (6 ∷ 1 ∷ [])) ∷
@@ -148,7 +147,7 @@ looking-rows =
     (266, checking 32 4 (hex 12 0x00000000_00000000_00000000) 0) ∷
     (267, checking 32 2 (hex 38 0x00000000_05000000_02000000_28000000_00000000_29000000_01000000_2A000000_63000000_00_00) 9) ∷
     (268, checking 32 1 (hex 21 0x00000000_01000000_01000000_05000000_00000000_00) 8) ∷
-    (269, checking 32 4 (hex 22 0x00000000_02000000_02000000_1F000000_00000000_80_00) 8) ∷
+    (269, checking 32 4 (hex 22 0x00000000_02000000_02000000_20000000_00000000_80_00) 8) ∷
     (270, checking 32 4 (hex 23 0x00000000_03000000_03000000_1E000000_00000000_05_80_00) 9) ∷
     (271, checking 32 4 (hex 22 0x00000000_02000000_02000000_01000000_00000000_00_00) 8) ∷
     (272, checking 1048576 4 (hex 23 0x00000000_02000000_03000000_01000000_00000000_80_80_01) 0) ∷
@@ -164,6 +163,14 @@ looking-rows =
     (282, testing (with 54 0x81) 0 5 (8 ∷ 0 ∷ 0 ∷ [])) ∷
     (283, counting rubbish 1 (0 ∷ 0 ∷ 8 ∷ [])) ∷
     (284, lending rubbish 1 (0 ∷ 0 ∷ 38 ∷ 40 ∷ []) stained) ∷
+    (285, counting (with 54 0x81) 9 (8 ∷ 0 ∷ 0 ∷ [])) ∷
+    (286, lending (with 54 0x81) 1 (8 ∷ 0 ∷ 0 ∷ 0 ∷ []) []) ∷
+    (287, checking 2 4 (hex 21 0x00000000_02000000_01000000_01000000_00000000_00) 0) ∷
+    (288, checking 32 2 (hex 28 0x00000000_03000000_00000000_28000000_00000000_29000000_05000000) 7) ∷
+    (289, checking 32 1 (hex 20 0x00000000_01000000_00000000_28000000_01000000) 7) ∷
+    (290, checking 32 4 (hex 17 0x21000000_00000000_00000000_0000000000) 6) ∷
+    (291, checking 32 4 (hex 16 0x20000000_00000000_00000000_9D_13_50_F4) 0) ∷
+    (292, checking 32 4 (hex 21 0x00000000_02000000_01000000_1F000000_00000000_00) 0) ∷
     []
 
 -- The doubling search by itself, and slots sought one after the other in a record
@@ -177,9 +184,9 @@ search-rows =
     (326, searching own 40 0 40 40 (1 ∷ 2 ∷ 4 ∷ 8 ∷ 16 ∷ 32 ∷ 36 ∷ 38 ∷ 39 ∷ 40 ∷ [])) ∷
     (327, searching own 40 5 5 5 (6 ∷ [])) ∷
     (328, searching own 40 40 40 40 []) ∷
-    (331, seeking 32 4 list0 0 (7 ∷ []) (0 ∷ []) (1 ∷ []) (2 ∷ []) (3 ∷ [])) ∷
-    (332, seeking 32 4 list0 0 (8 ∷ 18 ∷ []) (1 ∷ 1 ∷ []) (2 ∷ 3 ∷ []) (4 ∷ 2 ∷ []) (0 ∷ 0 ∷ [])) ∷
-    (333, seeking 32 4 list1 0 (5 ∷ 17 ∷ 25 ∷ 30 ∷ []) (1 ∷ 0 ∷ 0 ∷ 1 ∷ []) (0 ∷ 0 ∷ 0 ∷ 1 ∷ []) (0 ∷ 1 ∷ 1 ∷ 1 ∷ []) (0 ∷ 0 ∷ 0 ∷ 1 ∷ [])) ∷
+    (331, trying 32 4 list0 0 (7 ∷ []) (0 ∷ []) (1 ∷ []) (2 ∷ []) (3 ∷ [])) ∷
+    (332, trying 32 4 list0 0 (8 ∷ 18 ∷ []) (1 ∷ 1 ∷ []) (2 ∷ 3 ∷ []) (4 ∷ 2 ∷ []) (0 ∷ 0 ∷ [])) ∷
+    (333, trying 32 4 list1 0 (5 ∷ 17 ∷ 25 ∷ 30 ∷ []) (1 ∷ 0 ∷ 0 ∷ 1 ∷ []) (0 ∷ 0 ∷ 0 ∷ 1 ∷ []) (0 ∷ 1 ∷ 1 ∷ 1 ∷ []) (0 ∷ 0 ∷ 0 ∷ 1 ∷ [])) ∷
     []
 
 -- Questions
@@ -188,7 +195,7 @@ asking-rows =
     (301, asking index 2 (replicate 17 1) (room 7) (14 ∷ 0 ∷ 0 ∷ 0 ∷ 0 ∷ []) (room 7)) ∷
     (302, asking (with 54 0x81) 2 [] (room 1) (8 ∷ 0 ∷ 0 ∷ 0 ∷ 0 ∷ []) (room 1)) ∷
     (303, asking index 1 (0 ∷ 1 ∷ 2 ∷ 9 ∷ []) [] (11 ∷ 2 ∷ 0 ∷ 0 ∷ 0 ∷ []) []) ∷
-    (304, asking index 1 (0 ∷ []) (room 14) (12 ∷ 15 ∷ 0 ∷ 0 ∷ 0 ∷ []) (room 14)) ∷
+    (304, asking index 1 (0 ∷ []) (room 3) (12 ∷ 15 ∷ 0 ∷ 0 ∷ 0 ∷ []) (room 3)) ∷
     (305, asking index 0 (0 ∷ 1 ∷ []) (room 6) (12 ∷ 7 ∷ 0 ∷ 0 ∷ 0 ∷ []) (room 6)) ∷
     (306, asking index 1 (1 ∷ 0 ∷ 0 ∷ []) (room 7) (0 ∷ 0 ∷ 5 ∷ 17 ∷ 25 ∷ []) (5 ∷ 12 ∷ 16 ∷ 26 ∷ 30 ∷ 0 ∷ 0 ∷ [])) ∷
     (307, asking index 1 (replicate 16 1) (room 7) (0 ∷ 0 ∷ 7 ∷ 15 ∷ 45 ∷ []) slots1) ∷
@@ -198,6 +205,7 @@ asking-rows =
     (311, asking three 1 (0 ∷ 1 ∷ 2 ∷ []) (room 4) (0 ∷ 0 ∷ 2 ∷ 20 ∷ 6 ∷ []) (4 ∷ 16 ∷ 0 ∷ 0 ∷ [])) ∷
     (312, asking rubbish 1 (0 ∷ 1 ∷ []) (room 5) (0 ∷ 0 ∷ 4 ∷ 5 ∷ 1 ∷ []) (3 ∷ 11 ∷ 13 ∷ 22 ∷ 0 ∷ [])) ∷
     (313, asking tailless 1 (0 ∷ 1 ∷ []) (room 2) (0 ∷ 0 ∷ 1 ∷ 0 ∷ 0 ∷ []) (5 ∷ 0 ∷ [])) ∷
+    (314, asking index 1 (replicate 17 9) [] (10 ∷ 0 ∷ 0 ∷ 0 ∷ 0 ∷ []) []) ∷
     []
 
 -- Codes, writing and closing
@@ -223,6 +231,8 @@ writing-rows =
     (428, writing 32 4 16 slots1 (room 23) (12 ∷ 24 ∷ 0 ∷ []) (room 23)) ∷
     (429, writing 32 4 0 (7 ∷ []) (room 22) (0 ∷ 0 ∷ 20 ∷ []) (hex 20 0x00000000_01000000_00000000_07000000_00000000 ++ room 2)) ∷
     (430, writing 32 4 32 (32 ∷ []) (room 16) (0 ∷ 0 ∷ 16 ∷ []) (hex 16 0x20000000_00000000_00000000_00_00_00_01)) ∷
+    (431, writing 32 4 0 (0 ∷ []) [] (13 ∷ 0 ∷ 0 ∷ []) []) ∷
+    (432, writing 32 2 11 (2 ∷ 3 ∷ 11 ∷ 13 ∷ 14 ∷ 20 ∷ 22 ∷ 31 ∷ []) (room 40) (0 ∷ 0 ∷ 40 ∷ []) (hex 40 0x0B000000_05000000_02000000_60_20_0D000000_00000000_14000000_01000000_1F000000_02000000_00_01)) ∷
     (441, closing (room 200) 32 4 0 [] (4 ∷ 0 ∷ 0 ∷ []) (room 200)) ∷
     (442, closing (list0 ++ list1 ++ room 31) 32 4 79 (0 ∷ 55 ∷ []) (12 ∷ 111 ∷ 0 ∷ []) (list0 ++ list1 ++ room 31)) ∷
     (443, closing (list0 ++ list1 ++ room 34) 32 4 79 (0 ∷ 55 ∷ []) (0 ∷ 0 ∷ 111 ∷ []) (index ++ room 2)) ∷
@@ -232,6 +242,7 @@ writing-rows =
     (447, closing (list0 ++ list1 ++ room 32) 32 4 79 (0 ∷ 68 ∷ []) (5 ∷ 0 ∷ 0 ∷ []) (list0 ++ list1 ++ room 32)) ∷
     (448, closing (list0 ++ list1 ++ room 31) 32 4 79 (1 ∷ 55 ∷ []) (12 ∷ 111 ∷ 0 ∷ []) (list0 ++ list1 ++ room 31)) ∷
     (449, closing (list0 ++ set list1 22 6 ++ room 32) 32 4 79 (0 ∷ 55 ∷ []) (9 ∷ 1 ∷ 0 ∷ []) (list0 ++ set list1 22 6 ++ room 32)) ∷
+    (450, closing (room 9) 0 4 4294967295 (7 ∷ []) (4 ∷ 0 ∷ 0 ∷ []) (room 9)) ∷
     []
 
 -- The program: leading zeros, the largest number and one more, 256 and 257 bytes, no number, other bytes, a way alone, 127 names

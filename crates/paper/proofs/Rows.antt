@@ -1,18 +1,18 @@
 -- A row of a table: what is asked of an operation, and its whole answer, every buffer included. A table holds when no row of it fails.
-use Prim.Native.Nat.{ℕ, zero, suc}
-use mathlib.Core.Path.{_≡_, refl, ap, _∙_}
+use Prim.Native.Nat.{ℕ}
+use mathlib.Core.Path.{_≡_, refl, _∙_}
 use mathlib.Core.Bool.{Bool, true, false, _&&_}
 use mathlib.Core.Option.{Option}
 use mathlib.Core.List.{List, [], _∷_, _++_, map}
-use lib.ListN.{length, getD}
+use lib.ListN.{length, replicate}
 use lib.Dec.{eqb}
-use Rattle.paper.specs.Lists.{pick, same}
+use Rattle.paper.specs.Lists.{pick, bitOf, same}
 use Rattle.paper.specs.Code.{codeOf, onCode, codeBytes}
 use Rattle.paper.specs.Record.{recordFault}
 use Rattle.paper.specs.Held.{Listed, listed}
 use Rattle.paper.specs.Index.{held}
 use Rattle.paper.specs.Look.{look}
-use Rattle.paper.specs.Search.{Sought, searched}
+use Rattle.paper.specs.Search.{searched}
 use Rattle.paper.specs.Walk.{Try, tried}
 use Rattle.paper.specs.Ask.{askAnswer, askSlice}
 use Rattle.paper.specs.OneList.{testAnswer, countAnswer, partAnswer, lent}
@@ -51,11 +51,12 @@ pub data Row : Type 0 where
   checking : (u B : ℕ) (bytes : List ℕ) (number : ℕ) → Row
   -- entries s(0) .. s(m), the finger, the slot: j, and the positions looked at in their order
   searching : (s : ℕ → ℕ) (m finger x j : ℕ) (seen : List ℕ) → Row
-  -- a record with u and B, a finger and slots sought one after the other: found, the finger then, looks and codes of each
-  seeking : (u B : ℕ) (bytes : List ℕ) (finger : ℕ) (slots found fingers looks codes : List ℕ) → Row
+  -- a record with u and B, a finger and slots tried one after the other: found, the finger then, looks and codes of each
+  trying : (u B : ℕ) (bytes : List ℕ) (finger : ℕ) (slots found fingers looks codes : List ℕ) → Row
 
-abbrev pub numberOf : Bool → ℕ
-numberOf t = pick t 1 0
+-- a lent slice or buffer of n places that hold rubbish
+abbrev pub room : ℕ → List ℕ
+room n = replicate n 9
 
 abbrev pub lineNumbers : Line → List ℕ
 lineNumbers usage = []
@@ -72,7 +73,7 @@ holds (looking index answer) = let v = look index in same (v .number ∷ v .plac
 holds (asking index way names before answer after) =
     let a = askAnswer index way names (length before) in
     same (a .number ∷ a .place ∷ a .count ∷ a .looks ∷ a .codes ∷ []) answer && same (askSlice index way names before) after
-holds (testing index name slot answer) = let a = testAnswer index name slot in same (a .number ∷ a .place ∷ numberOf (a .yes) ∷ []) answer
+holds (testing index name slot answer) = let a = testAnswer index name slot in same (a .number ∷ a .place ∷ bitOf (a .yes) ∷ []) answer
 holds (counting index name answer) = let a = countAnswer index name in same (a .number ∷ a .place ∷ a .count ∷ []) answer
 holds (lending index name answer bytes) =
     let a = partAnswer index name in
@@ -88,11 +89,11 @@ holds (running file text output) = same (program file text) output
 holds (holding index i slots) = same (held index i) slots
 holds (coding value bytes) = same (codeBytes value) bytes && onCode (codeOf bytes) false λ v r. eqb v value && same r []
 holds (uncoding bytes) = same (onCode (codeOf bytes) [] λ v r. v ∷ []) []
-holds (checking u B bytes number) = eqb (recordFault u B bytes) number
+holds (checking u B bytes number) = eqb (recordFault u B (length bytes) bytes) number
 holds (searching s m finger x j seen) = let t = searched s x m finger in eqb (t .j) j && same (t .seen) seen
-holds (seeking u B bytes finger slots found fingers looks codes) =
+holds (trying u B bytes finger slots found fingers looks codes) =
     let ts = tries (listed u B bytes) finger slots in
-    same (map (λ (t : Try). numberOf (t .found)) ts) found && same (map (λ (t : Try). t .finger) ts) fingers
+    same (map (λ (t : Try). bitOf (t .found)) ts) found && same (map (λ (t : Try). t .finger) ts) fingers
     && same (map (λ (t : Try). t .looks) ts) looks && same (map (λ (t : Try). t .codes) ts) codes
 
 -- the labels of the rows that fail

@@ -8,8 +8,7 @@ use Rattle.paper.specs.Lists.{pick, total}
 use Rattle.paper.specs.Refusal.{accepted, ifAccepted, orElse, fault10, fault11, fault12, fault14}
 use Rattle.paper.specs.Index.{uOf, blockLength, kOf, recordOf}
 use Rattle.paper.specs.Look.{look}
-use Rattle.paper.specs.Walk.{Walk}
-use Rattle.paper.specs.Question.{commonSlots, smallest, bySkips}
+use Rattle.paper.specs.Question.{Charge, commonSlots, smallest, bySkips}
 use Rattle.paper.specs.declared.Verdict.{Verdict}
 use Rattle.paper.specs.declared.Answer.{Answer}
 
@@ -21,7 +20,7 @@ named index names = map (recordOf index) names
 unfoldable pub roomNeeded : List ℕ → ℕ → List ℕ → ℕ
 roomNeeded index way names = smallest (named index names)
 
--- the whole index is looked at first; then 14, 10, 11, 12
+-- nothing is asked of an index that looking refuses; then 14, 10, 11, 12
 unfoldable pub askFault : List ℕ → ℕ → List ℕ → ℕ → Verdict
 askFault index way names room =
     let question = fault14 way (fault10 names (fault11 (kOf index) names (fault12 room (roomNeeded index way names) accepted))) in
@@ -31,16 +30,16 @@ askFault index way names room =
 unfoldable pub answerSlots : List ℕ → List ℕ → List ℕ
 answerSlots index names = commonSlots (uOf index) (blockLength index) (named index names)
 
--- the walks that looks and codes are summed over: by skips those of all names but the starting list's, plainly none
-unfoldable pub walked : List ℕ → ℕ → List ℕ → List Walk
-walked index way names = let skips = bySkips (uOf index) (blockLength index) (named index names) in pick (eqb way 1) skips []
+-- what the question costs, position by position: by skips what the walks cost, plainly nothing
+unfoldable pub costs : List ℕ → ℕ → List ℕ → List Charge
+costs index way names = let skips = bySkips (uOf index) (blockLength index) (named index names) in pick (eqb way 1) skips []
 
 unfoldable pub askAnswer : List ℕ → ℕ → List ℕ → ℕ → Answer
 askAnswer index way names room =
     let v = askFault index way names room in
     let count = length (answerSlots index names) in
-    let looks = total (map (λ (w : Walk). w .looks) (walked index way names)) in
-    let codes = total (map (λ (w : Walk). w .codes) (walked index way names)) in
+    let looks = total (map (λ (c : Charge). c .looks) (costs index way names)) in
+    let codes = total (map (λ (c : Charge). c .codes) (costs index way names)) in
     record { number = v .number; place = v .place; count = ifAccepted v count 0; looks = ifAccepted v looks 0; codes = ifAccepted v codes 0 }
 
 -- the slice afterwards: the answer at its front, and 0 at every place behind; a refusal leaves it as it was

@@ -1,4 +1,5 @@
--- [The index, read from its end] A code: seven bits in each byte, the lowest first; the high bit says that one more byte follows.
+-- [The index, read from its end] A code packs a number into one to three bytes: digits to the base 128, the lowest first, and 128 is added
+-- to each byte but the last.
 use Prim.Native.Nat.{ℕ, _+_, _*_, _/_, _%_}
 use mathlib.Core.List.{List, [], _∷_}
 use lib.Dec.{ltb, eqb}

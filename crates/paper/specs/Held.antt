@@ -26,7 +26,7 @@ listed u B r =
     let k = blockCount B (tailCount r) in
     record { cut = cutOf r; bits = bitsOf r; m = k; entries = entriesOf k (behindBits r); blocks = tailOf u B r .blocks }
 
--- the entries that a search compares: s(0) is the cut, and s(j) the first slot of the j-th block, counted from 1
+-- what a search compares: s(0), the cut, and then for each block, counted from 1, its first slot
 unfoldable pub entryOf : ℕ → List ℕ → ℕ → ℕ
 entryOf c es zero = c
 entryOf c es (suc b) = firstSlot es b

@@ -31,9 +31,9 @@ dOf bs = fromEnd bs 8
 unfoldable pub startOf : List ℕ → ℕ → ℕ
 startOf bs i = pick (ltb i (kOf bs)) (fromEnd bs (24 + 4 * (kOf bs - i))) (dOf bs)
 
--- the record from s(i) up to s(i + 1), where the next one starts
+-- record i, given where each record starts: it ends where the next one starts
 abbrev pub recordIn : List ℕ → (ℕ → ℕ) → ℕ → List ℕ
-recordIn bs s i = part bs (s i) (s (i + 1))
+recordIn bs start i = part bs (start i) (start (i + 1))
 
 -- record i of an index, and the slots that list i holds
 abbrev pub recordOf : List ℕ → ℕ → List ℕ

@@ -1,5 +1,4 @@
--- [What is built] The question that the small program reads: at most 256 bytes, decimal numbers below 2^32, parted by bytes 20 or 0A,
--- which may stand at either end too.
+-- [What is built] The text that the small program takes its question from: decimal numbers, and bytes 20 and 0A wherever no digit stands.
 use Prim.Native.Nat.{ℕ, _+_, _-_, _*_}
 use mathlib.Core.Bool.{Bool, true, false, _&&_, _||_}
 use mathlib.Core.Option.{Option, none, some}

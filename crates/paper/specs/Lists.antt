@@ -10,6 +10,10 @@ abbrev pub pick : {A : Type 0} → Bool → A → A → A
 pick true a b = a
 pick false a b = b
 
+-- a test as a number: 1 where it passes, else 0
+abbrev pub bitOf : Bool → ℕ
+bitOf t = pick t 1 0
+
 -- x stands among them
 unfoldable pub has : ℕ → List ℕ → Bool
 has x [] = false

@@ -15,11 +15,11 @@ use Rattle.paper.specs.declared.Part.{Part}
 
 -- the index, then 11 of the one name
 unfoldable pub nameFault : List ℕ → ℕ → Verdict
-nameFault index name = let after = fault11 (kOf index) (name ∷ []) accepted in orElse (look index) after
+nameFault index name = let later = fault11 (kOf index) (name ∷ []) accepted in orElse (look index) later
 
--- Testing: the index, 11, 16; yes exactly when the list holds the slot
+-- Testing: then 16; a sound question is answered by what the list holds
 unfoldable pub testFault : List ℕ → ℕ → ℕ → Verdict
-testFault index name x = let after = fault16 (uOf index) x accepted in orElse (nameFault index name) after
+testFault index name x = let later = fault16 (uOf index) x accepted in orElse (nameFault index name) later
 
 unfoldable pub testAnswer : List ℕ → ℕ → ℕ → Tested
 testAnswer index name x =
@@ -27,12 +27,12 @@ testAnswer index name x =
     let holds = has x (held index name) in
     record { number = v .number; place = v .place; yes = ifAccepted v holds false }
 
--- Counting: the index, 11; how many slots the list holds
+-- Counting: a good name is answered with the size of its list
 unfoldable pub countAnswer : List ℕ → ℕ → Counted
 countAnswer index name =
     let v = nameFault index name in
-    let held = countOf (recordOf index name) in
-    record { number = v .number; place = v .place; count = ifAccepted v held 0 }
+    let size = countOf (recordOf index name) in
+    record { number = v .number; place = v .place; count = ifAccepted v size 0 }
 
 -- Lending: the record's bytes as they lie, and none where counting refuses
 unfoldable pub lent : List ℕ → ℕ → List ℕ

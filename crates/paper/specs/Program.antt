@@ -19,7 +19,7 @@ decimalF (suc f) n ds = let more = decimalF f (n / 10) ((0x30 + n % 10) ∷ ds) 
 unfoldable pub decimal : ℕ → List ℕ
 decimal n = decimalF 19 n []
 
--- number, place, looks and codes on one line, parted by single spaces; then a line for each slot
+-- four numbers of the answer on the first line, and then the slots, a line for each
 unfoldable pub printed : Answer → List ℕ → List ℕ
 printed a slots =
     decimal (a .number) ++ 0x20 ∷ decimal (a .place) ++ 0x20 ∷ decimal (a .looks) ++ 0x20 ∷ decimal (a .codes) ++ 0x0a ∷

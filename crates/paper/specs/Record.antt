@@ -3,7 +3,7 @@
 use Prim.Native.Nat.{ℕ, _+_, _-_, _*_, _/_, _%_, _^_}
 use mathlib.Core.Bool.{Bool, _&&_}
 use mathlib.Core.List.{List}
-use lib.ListN.{length, take, drop}
+use lib.ListN.{take, drop}
 use lib.Dec.{ltb, eqb}
 use Rattle.paper.specs.Lists.{pick, keep, upFrom}
 use Rattle.paper.specs.Bytes.{byteAt, u32At, ceilDiv}
@@ -37,7 +37,7 @@ entriesOf m behind = take (8 * m) behind
 abbrev pub codesOf : ℕ → List ℕ → List ℕ
 codesOf m behind = drop (8 * m) behind
 
--- Bit x stands in this byte, at this digit of it: digit 7 is the top one, and bit 1 is the top bit of the first byte
+-- Where bit x is found: the byte, and the digit of that byte. Eight bits go to a byte, from its top digit 7 down
 abbrev pub byteOf : ℕ → ℕ
 byteOf x = (x - 1) / 8
 
@@ -61,8 +61,8 @@ tailIn u B c n L behind = let m = blockCount B n in readTail u B c n L (entriesO
 unfoldable pub tailOf : ℕ → ℕ → List ℕ → Tail
 tailOf u B r = tailIn u B (cutOf r) (tailCount r) (codeLength r) (behindBits r)
 
--- 6: a cut above u, more tail slots than there are above the cut, codes without a tail, or parts that do not sum to the record's size;
--- else what follows
+-- 6: a cut above u, a tail that has more slots than lie above the cut, codes without a tail, or parts that do not make up the record's
+-- size; else what follows
 unfoldable pub fault6 : ℕ → ℕ → ℕ → ℕ → ℕ → ℕ → ℕ → ℕ
 fault6 u B size c n L rest =
     pick (ltb u c) 6
@@ -70,14 +70,6 @@ fault6 u B size c n L rest =
     (pick (eqb n 0 && ltb 0 L) 6
     (pick (eqb (12 + bitLength c + 8 * blockCount B n + L) size) rest 6)))
 
--- the tests of a record of some size, given its head and what stands behind that: 6, then those of the tail
-unfoldable pub partsFault : ℕ → ℕ → ℕ → List ℕ → List ℕ → ℕ
-partsFault u B size head behind =
-    let c = cutOf head in
-    let n = tailCount head in
-    let L = codeLength head in
-    let tail = tailIn u B c n L (drop (bitLength c) behind) .fault in
-    fault6 u B size c n L tail
-
-unfoldable pub recordFault : ℕ → ℕ → List ℕ → ℕ
-recordFault u B r = partsFault u B (length r) (take 12 r) (drop 12 r)
+-- the tests of a record of some size: 6, then those of the tail
+unfoldable pub recordFault : ℕ → ℕ → ℕ → List ℕ → ℕ
+recordFault u B size r = let tail = tailOf u B r .fault in fault6 u B size (cutOf r) (tailCount r) (codeLength r) tail

@@ -1,5 +1,6 @@
 -- [Numbers of refusal] How a verdict is said, and the rows of the table as links: each has its test, the number and place where the test
--- fails, and `rest`, what follows where it passes. An operation is a chain of links in its own order. (6 to 9 are said of one record: Record, Tail, Block.)
+-- fails, and `rest`, what follows where it passes. An operation is a chain of links in its own order. (6 to 9 are said of one record, in
+-- Record, Tail and Block.)
 use Prim.Native.Nat.{ℕ, zero, suc, _+_, _-_, _*_}
 use mathlib.Core.Bool.{Bool, false, _||_}
 use mathlib.Core.List.{List, [], _∷_}
@@ -8,7 +9,7 @@ use lib.Dec.{ltb, leb, eqb}
 use Rattle.paper.specs.Lists.{pick, same, leading}
 use Rattle.paper.specs.declared.Verdict.{Verdict}
 
--- a number (0 is accepted) and a place, which is 0 unless a row names one
+-- a number, 0 for yes, and a place, 0 where the row names none
 abbrev pub verdict : ℕ → ℕ → Verdict
 verdict n p = record { number = n; place = p }
 
@@ -42,21 +43,29 @@ fault2 bs rest = pick (same (drop (length bs - 4) bs) tag) rest (verdict 2 0)
 unfoldable pub fault3 : ℕ → Verdict → Verdict
 fault3 edition rest = pick (eqb edition 1) rest (verdict 3 0)
 
-unfoldable pub fault4 : ℕ → ℕ → ℕ → Verdict → Verdict
-fault4 u B k rest = within 1 1048576 u (verdict 4 0) (within 1 128 B (verdict 4 0) (within 1 4096 k (verdict 4 0) rest))
+-- 4, of u and B; and of k
+unfoldable pub fault4 : ℕ → ℕ → Verdict → Verdict
+fault4 u B rest = within 1 1048576 u (verdict 4 0) (within 1 128 B (verdict 4 0) rest)
 
--- s(i) is where record i starts and s(k) is D, so record i lies from s(i) up to s(i + 1).
+unfoldable pub fault4k : ℕ → Verdict → Verdict
+fault4k k rest = within 1 4096 k (verdict 4 0) rest
+
+-- the size of an index: the records up to D, the directory of k starts, the trailer
+abbrev pub finished : ℕ → ℕ → ℕ
+finished D k = D + 4 * k + 24
+
+-- Record i lies from start i up to start (i + 1), and start k is D.
 -- Of k records from record i on, one would be shorter than 12 bytes
 unfoldable pub tooShort : (ℕ → ℕ) → ℕ → ℕ → Bool
-tooShort s zero i = false
-tooShort s (suc k) i = ltb (s (i + 1)) (s i + 12) || tooShort s k (i + 1)
+tooShort start zero i = false
+tooShort start (suc k) i = ltb (start (i + 1)) (start i + 12) || tooShort start k (i + 1)
 
 -- 5, of the starts alone; and of a whole index, whose parts must make up its size
 unfoldable pub startsFault : (ℕ → ℕ) → ℕ → Verdict → Verdict
-startsFault s k rest = pick (eqb (s 0) 0) (pick (tooShort s k 0) (verdict 5 0) rest) (verdict 5 0)
+startsFault start k rest = pick (eqb (start 0) 0) (pick (tooShort start k 0) (verdict 5 0) rest) (verdict 5 0)
 
 unfoldable pub fault5 : ℕ → ℕ → ℕ → (ℕ → ℕ) → Verdict → Verdict
-fault5 size D k s rest = let starts = startsFault s k rest in pick (eqb (D + 4 * k + 24) size) starts (verdict 5 0)
+fault5 size D k start rest = let starts = startsFault start k rest in pick (eqb (finished D k) size) starts (verdict 5 0)
 
 unfoldable pub fault10 : List ℕ → Verdict → Verdict
 fault10 names rest = within 1 16 (length names) (verdict 10 0) rest
@@ -69,7 +78,7 @@ fault11 k names rest = let good = leading (λ i. ltb i k) names in pick (ltb goo
 unfoldable pub fault12 : ℕ → ℕ → Verdict → Verdict
 fault12 room need rest = pick (ltb room need) (verdict 12 need) rest
 
--- how many slots ascend strictly from above prev and stay within u
+-- how many slots at the front rise, each above the one before (the first above prev), and stay within u
 unfoldable pub goodSlots : ℕ → ℕ → List ℕ → ℕ
 goodSlots u prev [] = 0
 goodSlots u prev (x ∷ xs) = pick (leb x prev) 0 (pick (ltb u x) 0 (1 + goodSlots u x xs))

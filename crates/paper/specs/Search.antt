@@ -1,5 +1,5 @@
--- [The question and its search] The doubling search for a slot x over entries s(0) .. s(m) from a finger p, told by the positions that it
--- looks at, in their order. A look is the comparison of one entry with x, so the looks are their number.
+-- [The question and its search] The doubling search for a slot x over entries s(0) .. s(m) from a finger p. It is told by the positions
+-- whose entries are held against x, one after the other: as many looks as positions.
 use Prim.Native.Nat.{ℕ, zero, suc, _+_, _-_, _*_, _/_}
 use mathlib.Core.List.{List, [], _∷_}
 use lib.ListN.{length}
@@ -26,7 +26,7 @@ abbrev pub mid : ℕ → ℕ → ℕ
 mid lo hi = lo + (hi - lo) / 2
 
 module _ (s : ℕ → ℕ) (x : ℕ) where
-  -- at most f halvings: while hi − lo is above 1, look at the middle, which becomes lo if its entry is ≤ x, else hi
+  -- The gap between a good position lo and a failed one hi is halved until they are neighbours; at most f times
   unfoldable pub halvedF : ℕ → ℕ → ℕ → Sought
   halvedF zero lo hi = at lo
   halvedF (suc f) lo hi =
@@ -39,21 +39,21 @@ module _ (s : ℕ → ℕ) (x : ℕ) where
   unfoldable pub halved : ℕ → ℕ → Sought
   halved lo hi = halvedF (hi - lo) lo hi
 
-  -- at most f doublings: look at p + d, p + 2d, p + 4d .. while the position is ≤ m and the entry ≤ x. Then halve between the last good position
-  -- lo and the failed one, or m + 1 if the next position lies past m
+  -- The distance d from the finger doubles as long as the entry there is good; at most f times. Then the gap between the last good position lo and
+  -- the one that failed is halved. A position past m is not looked at: the gap then goes up to m + 1
   unfoldable pub gallopedF : ℕ → ℕ → ℕ → ℕ → ℕ → Sought
   gallopedF zero m p d lo = halved lo (m + 1)
   gallopedF (suc f) m p d lo =
       let on = gallopedF f m p (2 * d) (p + d) in
       let failed = halved lo (p + d) in
-      let look = saw (p + d) (pick (leb (s (p + d)) x) on failed) in
+      let looked = saw (p + d) (pick (leb (s (p + d)) x) on failed) in
       let past = halved lo (m + 1) in
-      pick (leb (p + d) m) look past
+      pick (leb (p + d) m) looked past
 
   -- m of them are always enough
   unfoldable pub galloped : ℕ → ℕ → ℕ → ℕ → Sought
   galloped m p d lo = gallopedF m m p d lo
 
-  -- the search: p + 1 first. The finger counts as the last good position, so where p + 1 fails or lies past m nothing is left to halve, and j = p
+  -- the search begins at distance 1, the finger itself being good: where p + 1 fails or lies past m, p and p + 1 are neighbours and j is p
   unfoldable pub searched : ℕ → ℕ → Sought
   searched m p = galloped m p 1 p

@@ -27,7 +27,7 @@ onBlock b f = pick (eqb (b .fault) 0) (f (b .slots)) (stop (b .fault))
 abbrev pub blockCount : ℕ → ℕ → ℕ
 blockCount B n = ceilDiv n B
 
--- the skip entry of block b, counted from 0: the block's first slot, and the offset of its codes among the code bytes
+-- the skip entry of block b, counted from 0: where the block begins among the slots, and where its codes begin among the code bytes
 abbrev pub firstSlot : List ℕ → ℕ → ℕ
 firstSlot es b = u32At es (8 * b)
 
@@ -39,7 +39,8 @@ abbrev pub endOf : ℕ → List ℕ → ℕ → ℕ
 endOf L es k = pick (eqb k 0) L (offsetOf es 1)
 
 -- k blocks with n slots, behind the slot prev: es are their entries, cs the code bytes from offset a on, where their codes begin.
--- Block by block: an end before the start or beyond L is 7; a first slot not above prev, or above u, is 9; then come the codes
+-- Each block is judged whole before the next: 7 where its codes would run backwards or past L; 9 where its first slot does not rise above
+-- prev or leaves 1..u; then what its codes say
 unfoldable pub readBlocks : ℕ → ℕ → ℕ → ℕ → ℕ → ℕ → ℕ → List ℕ → List ℕ → Tail
 readBlocks u B L zero n prev a es cs = stop 0
 readBlocks u B L (suc k) n prev a es cs =
@@ -52,7 +53,7 @@ readBlocks u B L (suc k) n prev a es cs =
     (onBlock (readCodes u (min B n - 1) first (take (z - a) cs)) λ slots.
     join (first ∷ slots) (readBlocks u B L k (n - B) (lastOf first slots) z (drop 8 es) (drop (z - a) cs))))))
 
--- the tail of n slots above the cut c: a first offset that is not 0 is 7. (With no block there is no entry, and past the end 0 is read)
+-- the tail of n slots above the cut c: 7 unless the codes of block 0 begin at 0. (With no block there is no entry, and past the end 0 is read)
 unfoldable pub readTail : ℕ → ℕ → ℕ → ℕ → ℕ → List ℕ → List ℕ → Tail
 readTail u B c n L es cs =
     let blocks = readBlocks u B L (blockCount B n) n c 0 es cs in

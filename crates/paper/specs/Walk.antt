@@ -9,21 +9,22 @@ use Rattle.paper.specs.Record.{bitAt}
 use Rattle.paper.specs.Held.{Listed, entryOf}
 use Rattle.paper.specs.Search.{searched, looksOf}
 
--- A block is read from its first slot until a slot ≥ x or its end: the codes read, and the slot where it stopped (0: the block ran out)
+-- Reading in a block stops at its first slot that is not below x: that slot (0: the block ran out), and the codes that it took to get there
 pub record Seek : Type 0 where
   pub slot : ℕ
   pub codes : ℕ
 
-abbrev pub ended : ℕ → ℕ → Seek
-ended x y = record { slot = pick (leb x y) y 0; codes = 0 }
+-- it stops at y, the last slot read
+abbrev pub stopAt : ℕ → ℕ → Seek
+stopAt x y = record { slot = pick (leb x y) y 0; codes = 0 }
 
 abbrev pub more : Seek → Seek
 more t = record { slot = t .slot; codes = 1 + t .codes }
 
 -- y is the slot read last and zs are those behind it: each of them costs a code
 unfoldable pub seek : ℕ → ℕ → List ℕ → Seek
-seek x y [] = ended x y
-seek x y (z ∷ zs) = let on = more (seek x z zs) in pick (leb x y) (ended x y) on
+seek x y [] = stopAt x y
+seek x y (z ∷ zs) = let on = more (seek x z zs) in pick (leb x y) (stopAt x y) on
 
 abbrev pub seekBlock : ℕ → List ℕ → Seek
 seekBlock x [] = record { slot = 0; codes = 0 }

@@ -5,7 +5,7 @@ use mathlib.Core.Bool.{Bool}
 use mathlib.Core.List.{List, [], _∷_, _++_, map, flatten}
 use lib.ListN.{length, getD, take, drop}
 use lib.Dec.{ltb, leb}
-use Rattle.paper.specs.Lists.{pick, has, keep, onFront}
+use Rattle.paper.specs.Lists.{bitOf, has, keep, onFront}
 use Rattle.paper.specs.Bytes.{u32Bytes}
 use Rattle.paper.specs.Code.{codeBytes}
 use Rattle.paper.specs.Tail.{blockCount}
@@ -13,10 +13,6 @@ use Rattle.paper.specs.Record.{bitLength}
 use Rattle.paper.specs.Refusal.{accepted, ifAccepted, fault4, fault12, fault13, fault15}
 use Rattle.paper.specs.declared.Verdict.{Verdict}
 use Rattle.paper.specs.declared.Written.{Written}
-
--- a bit as a number
-abbrev pub bitOf : Bool → ℕ
-bitOf t = pick t 1 0
 
 -- the byte of bits x to x + 7, bit x on top: a bit is set where the test passes
 unfoldable pub octet : (ℕ → Bool) → ℕ → ℕ
@@ -34,7 +30,7 @@ unfoldable pub inBlocks : ℕ → ℕ → List ℕ → List (List ℕ)
 inBlocks B zero xs = []
 inBlocks B (suc m) xs = take B xs ∷ inBlocks B m (drop B xs)
 
--- the codes of the slots xs behind the slot prev: each of its difference from the one before, less one
+-- the codes of the slots xs behind the slot prev: how many slots each leaps over
 unfoldable pub gapCodes : ℕ → List ℕ → List ℕ
 gapCodes prev [] = []
 gapCodes prev (x ∷ xs) = codeBytes (x - prev - 1) ++ gapCodes x xs
@@ -56,15 +52,15 @@ encoded B c low high =
     let codes = flatten (map blockCodes blocks) in
     u32Bytes c ++ u32Bytes (length high) ++ u32Bytes (length codes) ++ bitBytes (λ x. has x low) 1 (bitLength c) ++ skipEntries 0 blocks ++ codes
 
--- the slots up to the cut go into bits, the others into the tail
+-- ascending slots, parted at the cut
 unfoldable pub encode : ℕ → ℕ → List ℕ → List ℕ
 encode B cut slots = encoded B cut (keep (λ x. leb x cut) slots) (keep (λ x. ltb cut x) slots)
 
--- 4 of u and B (with 1 in the place of k), 15, 13, 12
+-- 4 of u and B, 15, 13, 12
 unfoldable pub writeFault : ℕ → ℕ → ℕ → List ℕ → ℕ → Verdict
 writeFault u B cut slots room =
     let last = fault12 room (length (encode B cut slots)) accepted in
-    fault4 u B 1 (fault15 u cut (fault13 u slots last))
+    fault4 u B (fault15 u cut (fault13 u slots last))
 
 -- the answer of writing, and of closing: how long the thing is that was made
 unfoldable pub writtenWith : Verdict → ℕ → Written
