@@ -34,6 +34,7 @@ answerSlots index names = commonSlots (uOf index) (blockLength index) (named ind
 unfoldable pub costs : List ℕ → ℕ → List ℕ → List Charge
 costs index way names = let skips = bySkips (uOf index) (blockLength index) (named index names) in pick (eqb way 1) skips []
 
+-- the answer: how many slots there are, and the sums of what the positions cost
 unfoldable pub askAnswer : List ℕ → ℕ → List ℕ → ℕ → Answer
 askAnswer index way names room =
     let v = askFault index way names room in

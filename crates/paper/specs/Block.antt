@@ -10,9 +10,11 @@ pub record Block : Type 0 where
   pub fault : ℕ
   pub slots : List ℕ
 
+-- a fault, or the end, before any slot
 abbrev pub halt : ℕ → Block
 halt n = record { fault = n; slots = [] }
 
+-- the slot x, and then what b says
 abbrev pub cons : ℕ → Block → Block
 cons x b = record { fault = b .fault; slots = x ∷ b .slots }
 

@@ -28,6 +28,7 @@ unfoldable pub frameBytes : ℕ → ℕ → ℕ → List ℕ → List ℕ
 frameBytes u B D starts =
     flatten (map u32Bytes starts) ++ u32Bytes 1 ++ u32Bytes u ++ u32Bytes B ++ u32Bytes (length starts) ++ u32Bytes D ++ tag
 
+-- the answer: the size of the finished index
 unfoldable pub closeAnswer : List ℕ → ℕ → ℕ → ℕ → List ℕ → Written
 closeAnswer before u B D starts = writtenWith (closeFault before u B D starts) (finished D (length starts))
 

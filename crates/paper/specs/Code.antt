@@ -15,16 +15,18 @@ abbrev pub onCode : {A : Type 0} → Code → A → (ℕ → List ℕ → A) →
 onCode bad b f = b
 onCode (code v r) b f = f v r
 
--- Reading: one function for each byte, with the value of the bytes before it. A code may end with its first byte, whatever that is;
--- a second or third byte that ends it is not zero; a third byte ends it
+-- Reading: one function for each byte, given the value of the bytes before it. A byte that ends the code, unless it is the first, is not
+-- zero; and the third byte has to end it
 unfoldable pub third : ℕ → List ℕ → Code
 third v [] = bad
 third v (d ∷ r) = pick (ltb d 128) (pick (eqb d 0) bad (code (v + 16384 * d) r)) bad
 
+-- a second byte with 128 added leads on to a third
 unfoldable pub second : ℕ → List ℕ → Code
 second v [] = bad
 second v (b ∷ r) = pick (ltb b 128) (pick (eqb b 0) bad (code (v + 128 * b) r)) (third (v + 128 * (b % 128)) r)
 
+-- a first byte below 128 is the whole code
 unfoldable pub codeOf : List ℕ → Code
 codeOf [] = bad
 codeOf (a ∷ r) = pick (ltb a 128) (code a r) (second (a % 128) r)

@@ -21,6 +21,7 @@ pub record Listed : Type 0 where
   pub entries : List ℕ
   pub blocks : List (List ℕ)
 
+-- these parts of a record
 unfoldable pub listed : ℕ → ℕ → List ℕ → Listed
 listed u B r =
     let k = blockCount B (tailCount r) in

@@ -7,10 +7,11 @@ use lib.ListN.{length}
 use lib.Dec.{ltb, leb, eqb}
 use Rattle.paper.specs.Lists.{pick}
 
+-- a space or the end of a line
 abbrev pub isParting : ℕ → Bool
 isParting b = eqb b 0x20 || eqb b 0x0a
 
--- 0 to 9 are the bytes 30 to 39
+-- a digit: 0 to 9 are the bytes 30 to 39
 abbrev pub isDigit : ℕ → Bool
 isDigit b = leb 0x30 b && leb b 0x39
 
@@ -29,15 +30,17 @@ readNumbers (b ∷ bs) inside v =
     let on = readNumbers bs true next in
     pick (isParting b) parted (pick (isDigit b && ltb next 4294967296) on none)
 
--- the way, then the names; or a text that is no question
+-- a question, its way and then its names; or a text that is none
 pub data Line : Type 0 where
   usage : Line
   question : ℕ → List ℕ → Line
 
+-- the first number is the way
 abbrev pub asLine : Option (List ℕ) → Line
 asLine none = usage
 asLine (some []) = usage
 asLine (some (way ∷ names)) = question way names
 
+-- a text of more than 256 bytes is no question, whatever it holds
 unfoldable pub readLine : List ℕ → Line
 readLine bs = let numbers = asLine (readNumbers bs false 0) in pick (ltb 256 (length bs)) usage numbers

@@ -21,6 +21,7 @@ nameFault index name = let later = fault11 (kOf index) (name ∷ []) accepted in
 unfoldable pub testFault : List ℕ → ℕ → ℕ → Verdict
 testFault index name x = let later = fault16 (uOf index) x accepted in orElse (nameFault index name) later
 
+-- the answer: yes where the slot stands in the list
 unfoldable pub testAnswer : List ℕ → ℕ → ℕ → Tested
 testAnswer index name x =
     let v = testFault index name x in

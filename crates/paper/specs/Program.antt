@@ -41,6 +41,7 @@ onLine (question way names) file = replied file way names
 abbrev pub noFile : List ℕ
 noFile = 0x66 ∷ 0x69 ∷ 0x6c ∷ 0x65 ∷ 0x0a ∷ []
 
+-- everything that the program prints
 unfoldable pub program : Option (List ℕ) → List ℕ → List ℕ
 program none text = noFile
 program (some file) text = let reply = onLine (readLine text) file in pick (ltb 65536 (length file)) noFile reply

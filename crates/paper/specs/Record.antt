@@ -9,13 +9,15 @@ use Rattle.paper.specs.Lists.{pick, keep, upFrom}
 use Rattle.paper.specs.Bytes.{byteAt, u32At, ceilDiv}
 use Rattle.paper.specs.Tail.{Tail, blockCount, readTail}
 
--- The head, 12 bytes: the cut c, the tail count n, the code length L
+-- The head, 12 bytes: three numbers. The first is the cut c
 abbrev pub cutOf : List ℕ → ℕ
 cutOf r = u32At r 0
 
+-- n, the tail count
 abbrev pub tailCount : List ℕ → ℕ
 tailCount r = u32At r 4
 
+-- L, the code length
 abbrev pub codeLength : List ℕ → ℕ
 codeLength r = u32At r 8
 
@@ -23,30 +25,35 @@ codeLength r = u32At r 8
 abbrev pub bitLength : ℕ → ℕ
 bitLength c = ceilDiv c 8
 
--- the bit part of a record, and what stands behind it
+-- the bit part of a record
 abbrev pub bitsOf : List ℕ → List ℕ
 bitsOf r = take (bitLength (cutOf r)) (drop 12 r)
 
+-- and what stands behind it
 abbrev pub behindBits : List ℕ → List ℕ
 behindBits r = drop (bitLength (cutOf r)) (drop 12 r)
 
--- of what stands behind the bits, the skip entries of m blocks, and the code bytes
+-- of what stands behind the bits, the skip entries of m blocks
 abbrev pub entriesOf : ℕ → List ℕ → List ℕ
 entriesOf m behind = take (8 * m) behind
 
+-- and the code bytes
 abbrev pub codesOf : ℕ → List ℕ → List ℕ
 codesOf m behind = drop (8 * m) behind
 
--- Where bit x is found: the byte, and the digit of that byte. Eight bits go to a byte, from its top digit 7 down
+-- where bit x is found: the byte
 abbrev pub byteOf : ℕ → ℕ
 byteOf x = (x - 1) / 8
 
+-- and the digit of that byte: eight bits go to a byte, from its top digit 7 down
 abbrev pub digitOf : ℕ → ℕ
 digitOf x = 7 - (x - 1) % 8
 
+-- digit s of a byte to the base 2
 abbrev pub digit : ℕ → ℕ → ℕ
 digit b s = b / 2 ^ s % 2
 
+-- bit x is set
 unfoldable pub bitAt : List ℕ → ℕ → Bool
 bitAt bits x = eqb (digit (byteAt bits (byteOf x)) (digitOf x)) 1
 
@@ -54,10 +61,11 @@ bitAt bits x = eqb (digit (byteAt bits (byteOf x)) (digitOf x)) 1
 unfoldable pub slotsToCut : ℕ → List ℕ → List ℕ
 slotsToCut c bits = keep (bitAt bits) (upFrom 1 c)
 
--- the tail where the head says c, n and L, of what stands behind the bits; and the tail of a record
+-- the tail where the head says c, n and L, of what stands behind the bits
 unfoldable pub tailIn : ℕ → ℕ → ℕ → ℕ → ℕ → List ℕ → Tail
 tailIn u B c n L behind = let m = blockCount B n in readTail u B c n L (entriesOf m behind) (codesOf m behind)
 
+-- the tail of a record
 unfoldable pub tailOf : ℕ → ℕ → List ℕ → Tail
 tailOf u B r = tailIn u B (cutOf r) (tailCount r) (codeLength r) (behindBits r)
 

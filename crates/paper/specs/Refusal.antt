@@ -13,6 +13,7 @@ use Rattle.paper.specs.declared.Verdict.{Verdict}
 abbrev pub verdict : ℕ → ℕ → Verdict
 verdict n p = record { number = n; place = p }
 
+-- no fault
 abbrev pub accepted : Verdict
 accepted = verdict 0 0
 
@@ -40,13 +41,15 @@ tag = 0x53 ∷ 0x4c ∷ 0x4f ∷ 0x54 ∷ []
 unfoldable pub fault2 : List ℕ → Verdict → Verdict
 fault2 bs rest = pick (same (drop (length bs - 4) bs) tag) rest (verdict 2 0)
 
+-- 3, of the edition
 unfoldable pub fault3 : ℕ → Verdict → Verdict
 fault3 edition rest = pick (eqb edition 1) rest (verdict 3 0)
 
--- 4, of u and B; and of k
+-- 4, of u and B
 unfoldable pub fault4 : ℕ → ℕ → Verdict → Verdict
 fault4 u B rest = within 1 1048576 u (verdict 4 0) (within 1 128 B (verdict 4 0) rest)
 
+-- 4, of k
 unfoldable pub fault4k : ℕ → Verdict → Verdict
 fault4k k rest = within 1 4096 k (verdict 4 0) rest
 
@@ -60,13 +63,15 @@ unfoldable pub tooShort : (ℕ → ℕ) → ℕ → ℕ → Bool
 tooShort start zero i = false
 tooShort start (suc k) i = ltb (start (i + 1)) (start i + 12) || tooShort start k (i + 1)
 
--- 5, of the starts alone; and of a whole index, whose parts must make up its size
+-- 5, of the starts alone: the first is 0, and no record is too short
 unfoldable pub startsFault : (ℕ → ℕ) → ℕ → Verdict → Verdict
 startsFault start k rest = pick (eqb (start 0) 0) (pick (tooShort start k 0) (verdict 5 0) rest) (verdict 5 0)
 
+-- 5, of a whole index: its parts make up its size, and then the starts
 unfoldable pub fault5 : ℕ → ℕ → ℕ → (ℕ → ℕ) → Verdict → Verdict
 fault5 size D k start rest = let starts = startsFault start k rest in pick (eqb (finished D k) size) starts (verdict 5 0)
 
+-- 10, of how many names there are
 unfoldable pub fault10 : List ℕ → Verdict → Verdict
 fault10 names rest = within 1 16 (length names) (verdict 10 0) rest
 
@@ -87,11 +92,14 @@ goodSlots u prev (x ∷ xs) = pick (leb x prev) 0 (pick (ltb u x) 0 (1 + goodSlo
 unfoldable pub fault13 : ℕ → List ℕ → Verdict → Verdict
 fault13 u slots rest = let good = goodSlots u 0 slots in pick (ltb good (length slots)) (verdict 13 good) rest
 
+-- 14, of the way: 0 is plainly, 1 by skips
 unfoldable pub fault14 : ℕ → Verdict → Verdict
 fault14 way rest = pick (ltb 1 way) (verdict 14 0) rest
 
+-- 15, of a cut to be written
 unfoldable pub fault15 : ℕ → ℕ → Verdict → Verdict
 fault15 u cut rest = pick (ltb u cut) (verdict 15 0) rest
 
+-- 16, of a slot to be tested
 unfoldable pub fault16 : ℕ → ℕ → Verdict → Verdict
 fault16 u x rest = within 1 u x (verdict 16 0) rest

@@ -11,6 +11,7 @@ pub record Sought : Type 0 where
   pub j : ℕ
   pub seen : List ℕ
 
+-- j with no look
 abbrev pub at : ℕ → Sought
 at j = record { j = j; seen = [] }
 
@@ -18,6 +19,7 @@ at j = record { j = j; seen = [] }
 abbrev pub saw : ℕ → Sought → Sought
 saw i t = record { j = t .j; seen = i ∷ t .seen }
 
+-- the looks
 abbrev pub looksOf : Sought → ℕ
 looksOf t = length (t .seen)
 

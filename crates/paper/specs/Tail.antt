@@ -13,9 +13,11 @@ pub record Tail : Type 0 where
   pub fault : ℕ
   pub blocks : List (List ℕ)
 
+-- a fault, or the end, before any block
 abbrev pub stop : ℕ → Tail
 stop n = record { fault = n; blocks = [] }
 
+-- the block xs, and then what t says
 abbrev pub join : List ℕ → Tail → Tail
 join xs t = record { fault = t .fault; blocks = xs ∷ t .blocks }
 
@@ -27,10 +29,11 @@ onBlock b f = pick (eqb (b .fault) 0) (f (b .slots)) (stop (b .fault))
 abbrev pub blockCount : ℕ → ℕ → ℕ
 blockCount B n = ceilDiv n B
 
--- the skip entry of block b, counted from 0: where the block begins among the slots, and where its codes begin among the code bytes
+-- the skip entry of block b, counted from 0: the slot that the block begins with
 abbrev pub firstSlot : List ℕ → ℕ → ℕ
 firstSlot es b = u32At es (8 * b)
 
+-- where its codes begin among the code bytes
 abbrev pub offsetOf : List ℕ → ℕ → ℕ
 offsetOf es b = u32At es (8 * b + 4)
 

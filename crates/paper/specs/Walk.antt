@@ -18,6 +18,7 @@ pub record Seek : Type 0 where
 abbrev pub stopAt : ℕ → ℕ → Seek
 stopAt x y = record { slot = pick (leb x y) y 0; codes = 0 }
 
+-- one code more was read
 abbrev pub more : Seek → Seek
 more t = record { slot = t .slot; codes = 1 + t .codes }
 
@@ -26,6 +27,7 @@ unfoldable pub seek : ℕ → ℕ → List ℕ → Seek
 seek x y [] = stopAt x y
 seek x y (z ∷ zs) = let on = more (seek x z zs) in pick (leb x y) (stopAt x y) on
 
+-- in a block, whose first slot costs no code
 abbrev pub seekBlock : ℕ → List ℕ → Seek
 seekBlock x [] = record { slot = 0; codes = 0 }
 seekBlock x (y ∷ ys) = seek x y ys

@@ -66,6 +66,7 @@ writeFault u B cut slots room =
 unfoldable pub writtenWith : Verdict → ℕ → Written
 writtenWith v size = record { number = v .number; place = v .place; length = ifAccepted v size 0 }
 
+-- the answer: the length of the record
 unfoldable pub writeAnswer : ℕ → ℕ → ℕ → List ℕ → ℕ → Written
 writeAnswer u B cut slots room = let size = length (encode B cut slots) in writtenWith (writeFault u B cut slots room) size
 
