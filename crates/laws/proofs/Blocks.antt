@@ -1,13 +1,13 @@
 -- The codes of one block, step by step: what is left to read after one code. First over `suc k`, for theorems; then over `0 < k` and a
 -- position, as a loop that counts down has it.
-use Prim.Native.Nat.{ℕ, zero, suc, _+_, _-_, _≤_, _<_}
+use Prim.Native.Nat.{ℕ, suc, _+_, _-_, _≤_, _<_}
 use mathlib.Core.Path.{_≡_, refl, sym, ap, _∙_}
 use mathlib.Core.List.{List, [], _∷_}
 use native.Mathlib.Omega.{arith}
 use lib.ListN.{length, drop}
 use borrow.Author.Tests.{lt-ltb, le-ltb}
 use Rattle.paper.specs.Bytes.{byteAt}
-use Rattle.paper.specs.Code.{Code, codeOf}
+use Rattle.paper.specs.Code.{codeOf}
 use Rattle.paper.specs.Code.Code.{code, bad}
 use Rattle.paper.specs.Block.{Block, halt, cons, readCodes}
 use Rattle.laws.proofs.Parts.{front, nothing}

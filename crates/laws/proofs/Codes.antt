@@ -1,7 +1,7 @@
 -- One code. By position: how reading goes, path by path, for a reader that has the bytes as it read them and the tests as facts. Then the
 -- bytes of a value: they read back as the value, and nothing else does.
 use Prim.Native.Nat.{ℕ, _+_, _*_, _/_, _%_, _≤_, _<_}
-use mathlib.Core.Path.{_≡_, refl, sym, ap, subst, _∙_}
+use mathlib.Core.Path.{_≡_, sym, ap, subst, _∙_}
 use mathlib.Core.List.{List, [], _∷_, _++_}
 use native.Mathlib.Decide.{decLt, ℕ-discrete}
 use native.Mathlib.Omega.{arith}

@@ -1,4 +1,4 @@
--- For each operation, an answer that the paper gives meets the operation's promise. A promise fixes the whole answer and every lent buffer.
+-- For each operation, a right answer on the paper's index meets the operation's promise. A promise fixes the whole answer and every lent buffer.
 use mathlib.Core.Path.{refl}
 use mathlib.Core.Bool.{true}
 use mathlib.Core.List.{[], _∷_, _++_}

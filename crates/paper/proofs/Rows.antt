@@ -35,8 +35,8 @@ pub data Row : Type 0 where
   lending : (index : List ℕ) (name : ℕ) (answer bytes : List ℕ) → Row
   -- u, B, the cut, the slots, the buffer before: number place length, and the buffer after
   writing : (u B cut : ℕ) (slots before answer after : List ℕ) → Row
-  -- the buffer before, u, B, the total, the starts: number place length, and the buffer after
-  closing : (before : List ℕ) (u B total : ℕ) (starts answer after : List ℕ) → Row
+  -- the buffer before, u, B, D, the starts: number place length, and the buffer after
+  closing : (before : List ℕ) (u B D : ℕ) (starts answer after : List ℕ) → Row
   -- the program's text: the way and the names, nothing for usage
   lining : (text numbers : List ℕ) → Row
   -- the program's file and text: what it prints
@@ -81,9 +81,9 @@ holds (lending index name answer bytes) =
 holds (writing u B cut slots before answer after) =
     let a = writeAnswer u B cut slots (length before) in
     same (a .number ∷ a .place ∷ a .length ∷ []) answer && same (writeBuffer u B cut slots before) after
-holds (closing before u B total starts answer after) =
-    let a = closeAnswer before u B total starts in
-    same (a .number ∷ a .place ∷ a .length ∷ []) answer && same (closeBuffer before u B total starts) after
+holds (closing before u B D starts answer after) =
+    let a = closeAnswer before u B D starts in
+    same (a .number ∷ a .place ∷ a .length ∷ []) answer && same (closeBuffer before u B D starts) after
 holds (lining text numbers) = same (lineNumbers (readLine text)) numbers
 holds (running file text output) = same (program file text) output
 holds (holding index i slots) = same (held index i) slots

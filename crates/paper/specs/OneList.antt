@@ -17,7 +17,7 @@ use Rattle.paper.specs.declared.Part.{Part}
 unfoldable pub nameFault : List ℕ → ℕ → Verdict
 nameFault index name = let later = fault11 (kOf index) (name ∷ []) accepted in orElse (look index) later
 
--- Testing: then 16; a sound question is answered by what the list holds
+-- Testing: the same, and then 16 of the slot
 unfoldable pub testFault : List ℕ → ℕ → ℕ → Verdict
 testFault index name x = let later = fault16 (uOf index) x accepted in orElse (nameFault index name) later
 

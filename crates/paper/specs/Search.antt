@@ -37,7 +37,7 @@ module _ (s : ℕ → ℕ) (x : ℕ) where
       let half = saw i (halvedF f (pick good i lo) (pick good hi i)) in
       pick (ltb 1 (hi - lo)) half (at lo)
 
-  -- hi − lo of them are always enough
+  -- hi − lo halvings are always enough, since each makes the gap smaller
   unfoldable pub halved : ℕ → ℕ → Sought
   halved lo hi = halvedF (hi - lo) lo hi
 
@@ -52,7 +52,7 @@ module _ (s : ℕ → ℕ) (x : ℕ) where
       let past = halved lo (m + 1) in
       pick (leb (p + d) m) looked past
 
-  -- m of them are always enough
+  -- m doublings are always enough, since each moves on by at least one position
   unfoldable pub galloped : ℕ → ℕ → ℕ → ℕ → Sought
   galloped m p d lo = gallopedF m m p d lo
 
