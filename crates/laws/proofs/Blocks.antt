@@ -3,11 +3,12 @@
 use Prim.Native.Nat.{ℕ, suc, _+_, _-_, _≤_, _<_}
 use mathlib.Core.Path.{_≡_, refl, sym, ap, _∙_}
 use mathlib.Core.List.{List, [], _∷_}
+use native.Mathlib.Decide.{decLe}
 use native.Mathlib.Omega.{arith}
 use lib.ListN.{length, drop}
 use borrow.Author.Tests.{lt-ltb, le-ltb}
 use Rattle.paper.specs.Bytes.{byteAt}
-use Rattle.paper.specs.Code.{codeOf}
+use Rattle.paper.specs.Code.{Code, codeOf}
 use Rattle.paper.specs.Code.Code.{code, bad}
 use Rattle.paper.specs.Block.{Block, halt, cons, readCodes}
 use Rattle.laws.proofs.Parts.{front, nothing}
@@ -34,6 +35,24 @@ module _ (u prev : ℕ) where
       pub codes-next : prev + v + 1 ≤ u → readCodes u (suc k) prev bs ≡ cons (prev + v + 1) (readCodes u k (prev + v + 1) r)
       unfolding readCodes
       codes-next l = simp (is, le-ltb _ _ l)
+
+-- one code of several, each way that it can go
+pub data CodeStep (u k prev : ℕ) (bs : List ℕ) : Block → Type 0 where
+  no-code : codeOf bs ≡ bad → CodeStep u k prev bs (halt 8)
+  code-above : (v : ℕ) (r : List ℕ) → codeOf bs ≡ code v r → u < prev + v + 1 → CodeStep u k prev bs (halt 9)
+  code-next : (v : ℕ) (r : List ℕ) → codeOf bs ≡ code v r → prev + v + 1 ≤ u → CodeStep u k prev bs (cons (prev + v + 1) (readCodes u k (prev + v + 1) r))
+
+-- it goes one of these ways
+pub code-step : (u k prev : ℕ) (bs : List ℕ) → CodeStep u k prev bs (readCodes u (suc k) prev bs)
+code-step u k prev bs = go (codeOf bs) refl
+  where
+    go : (c : Code) → codeOf bs ≡ c → CodeStep u k prev bs (readCodes u (suc k) prev bs)
+    go bad e = rw (codes-bad u prev k bs e) (no-code e)
+    go (code v r) e =
+        elim (decLe (prev + v + 1) u) [
+          | yes l ↦ rw (codes-next u prev k bs v r e l) (code-next v r e l)
+          | no g ↦ rw (codes-above u prev k bs v r e (omega arith)) (code-above v r e (omega arith))
+        ]
 
 -- k codes are left, from position p on
 module _ (u prev k : ℕ) (bs : List ℕ) (p : ℕ) where

@@ -10,7 +10,7 @@ use borrow.Author.Tests.{lt-ltb, le-ltb, eq-eqb, ne-eqb}
 use Rattle.paper.specs.Bytes.{byteAt}
 use Rattle.paper.specs.Code.{Code, codeOf, second, third, codeBytes}
 use Rattle.paper.specs.Code.Code.{code, bad}
-use Rattle.laws.proofs.Parts.{AllBytes, all-tail, front, nothing}
+use Rattle.laws.proofs.Parts.{AllBytes, all-tail, all-none, all-more, front, nothing}
 
 -- A code off the front of a list. Its second and third byte come with the value v of those before
 module _ (r : List ℕ) where
@@ -116,6 +116,7 @@ pub record Short (n : ℕ) : Type 0 where
   pub some : 1 ≤ n
   pub few : n ≤ 3
 
+-- so long is every code
 pub code-length : (v : ℕ) → Short (length (codeBytes v))
 code-length v = go (decLt v 128) (decLt v 16384)
   where
@@ -123,6 +124,19 @@ code-length v = go (decLt v 128) (decLt v 16384)
     go (yes l) d = rw (bytes-one v l) (record { some = omega arith; few = omega arith })
     go (no g) (yes l) = rw (bytes-two v (omega arith) l) (record { some = omega arith; few = omega arith })
     go (no g) (no m) = rw (bytes-three v (omega arith)) (record { some = omega arith; few = omega arith })
+
+-- all of them bytes
+pub all-code : (v : ℕ) → v < 2097152 → AllBytes (codeBytes v)
+all-code v small = go (decLt v 128) (decLt v 16384)
+  where
+    go : Dec (v < 128) → Dec (v < 16384) → AllBytes (codeBytes v)
+    go (yes l) d = rw (bytes-one v l) (all-more v [] (omega arith) all-none)
+    go (no g) (yes l) =
+        rw (bytes-two v (omega arith) l) (all-more (128 + v % 128) (v / 128 ∷ []) (omega arith) (all-more (v / 128) [] (omega arith) all-none))
+    go (no g) (no m) =
+        rw (bytes-three v (omega arith))
+        (all-more (128 + v % 128) ((128 + v / 128 % 128) ∷ v / 16384 ∷ []) (omega arith)
+        (all-more (128 + v / 128 % 128) (v / 16384 ∷ []) (omega arith) (all-more (v / 16384) [] (omega arith) all-none)))
 
 -- the bytes of a value read back as the value, whatever stands behind them
 module _ (v : ℕ) (r : List ℕ) where
@@ -141,6 +155,7 @@ module _ (v : ℕ) (r : List ℕ) where
       off-on _ (128 + v % 128) (omega arith) ∙ off-two-on _ _ (128 + v / 128 % 128) (omega arith)
       ∙ off-three r _ (v / 16384) (omega arith) (λ z. absurd (omega arith)) ∙ ap (λ (x : ℕ). code x r) e
 
+  -- a code of any length
   pub code-read : v < 2097152 → codeOf (codeBytes v ++ r) ≡ code v r
   code-read small = go (decLt v 128) (decLt v 16384)
     where

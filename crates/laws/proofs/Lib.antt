@@ -1,7 +1,19 @@
 -- Laws that proofs of code cite instead of opening a definition: each said once, over the position, the number or the list.
+pub mod Lists
 pub mod Parts
+pub mod Equals
 pub mod Words
+pub mod Rounding
+pub mod Bits
+pub mod Octets
 pub mod Codes
 pub mod Blocks
+pub mod Seeking
 pub mod Tails
+pub mod Entries
+pub mod Cutting
+pub mod Records
+pub mod Links
+pub mod Frames
+pub mod Names
 pub mod Searches

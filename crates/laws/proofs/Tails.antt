@@ -3,6 +3,7 @@
 use Prim.Native.Nat.{ℕ, suc, _+_, _-_, _≤_, _<_, min}
 use mathlib.Core.Path.{_≡_, refl, sym, ap, _∙_}
 use mathlib.Core.List.{List, _∷_}
+use native.Mathlib.Decide.{decLe, decLt, ℕ-discrete}
 use native.Mathlib.Omega.{arith}
 use lib.ListN.{take, drop}
 use lib.Dec.{eqb}
@@ -21,7 +22,7 @@ module _ (u B L : ℕ) where
 
   module _ (k n prev a : ℕ) (es cs : List ℕ) (first z : ℕ) (isF : first ≡ firstSlot es 0) (isZ : z ≡ endOf L es k) where
     -- the codes of the block at the front
-    abbrev pub inner : Block
+    abbrev inner : Block
     inner = readCodes u (min B n - 1) first (take (z - a) cs)
 
     pub blocks-back : z < a → readBlocks u B L (suc k) n prev a es cs ≡ stop 7
@@ -54,10 +55,39 @@ module _ (u B L : ℕ) where
             unfolding readBlocks
             blocks-next f = simp (← isF, ← isZ, le-ltb _ _ l₁, le-ltb _ _ l₂, lt-leb _ _ l₃, le-ltb _ _ l₄, eq-eqb _ _ f)
 
--- the entry at byte e of the entries, and where its block's codes end, k blocks being behind it
+-- one block of several, each way that it can go: it begins with the slot first, and its codes end at z
+pub data BlockStep (u B L k n prev a : ℕ) (es cs : List ℕ) (first z : ℕ) : Tail → Type 0 where
+  step-back : z < a → BlockStep u B L k n prev a es cs first z (stop 7)
+  step-beyond : a ≤ z → L < z → BlockStep u B L k n prev a es cs first z (stop 7)
+  step-low : a ≤ z → z ≤ L → first ≤ prev → BlockStep u B L k n prev a es cs first z (stop 9)
+  step-high : a ≤ z → z ≤ L → prev < first → u < first → BlockStep u B L k n prev a es cs first z (stop 9)
+  step-bad : a ≤ z → z ≤ L → prev < first → first ≤ u → ¬ (readCodes u (min B n - 1) first (take (z - a) cs) .fault ≡ 0)
+      → BlockStep u B L k n prev a es cs first z (stop (readCodes u (min B n - 1) first (take (z - a) cs) .fault))
+  step-next : a ≤ z → z ≤ L → prev < first → first ≤ u → readCodes u (min B n - 1) first (take (z - a) cs) .fault ≡ 0
+      → BlockStep u B L k n prev a es cs first z
+      (join (first ∷ readCodes u (min B n - 1) first (take (z - a) cs) .slots)
+      (readBlocks u B L k (n - B) (lastOf first (readCodes u (min B n - 1) first (take (z - a) cs) .slots)) z (drop 8 es) (drop (z - a) cs)))
+
+-- it goes one of these ways
+pub block-step : (u B L k n prev a : ℕ) (es cs : List ℕ) (first z : ℕ) → first ≡ firstSlot es 0 → z ≡ endOf L es k
+    → BlockStep u B L k n prev a es cs first z (readBlocks u B L (suc k) n prev a es cs)
+block-step u B L k n prev a es cs first z isF isZ =
+    go (decLe a z) (decLe z L) (decLt prev first) (decLe first u) (ℕ-discrete (readCodes u (min B n - 1) first (take (z - a) cs) .fault) 0)
+  where
+    go : Dec (a ≤ z) → Dec (z ≤ L) → Dec (prev < first) → Dec (first ≤ u) → Dec (readCodes u (min B n - 1) first (take (z - a) cs) .fault ≡ 0)
+        → BlockStep u B L k n prev a es cs first z (readBlocks u B L (suc k) n prev a es cs)
+    go (no g) d₂ d₃ d₄ d₅ = rw (blocks-back u B L k n prev a es cs first z isF isZ (omega arith)) (step-back (omega arith))
+    go (yes l₁) (no g) d₃ d₄ d₅ = rw (blocks-beyond u B L k n prev a es cs first z isF isZ l₁ (omega arith)) (step-beyond l₁ (omega arith))
+    go (yes l₁) (yes l₂) (no g) d₄ d₅ = rw (blocks-low u B L k n prev a es cs first z isF isZ l₁ l₂ (omega arith)) (step-low l₁ l₂ (omega arith))
+    go (yes l₁) (yes l₂) (yes l₃) (no g) d₅ = rw (blocks-high u B L k n prev a es cs first z isF isZ l₁ l₂ l₃ (omega arith)) (step-high l₁ l₂ l₃ (omega arith))
+    go (yes l₁) (yes l₂) (yes l₃) (yes l₄) (no g) = rw (blocks-bad u B L k n prev a es cs first z isF isZ l₁ l₂ l₃ l₄ g) (step-bad l₁ l₂ l₃ l₄ g)
+    go (yes l₁) (yes l₂) (yes l₃) (yes l₄) (yes f) = rw (blocks-next u B L k n prev a es cs first z isF isZ l₁ l₂ l₃ l₄ f) (step-next l₁ l₂ l₃ l₄ f)
+
+-- the entry at byte e of the entries
 pub first-at : (es : List ℕ) (e : ℕ) → firstSlot (drop e es) 0 ≡ u32At es e
 first-at es e = word-drop e es 0 ∙ ap (u32At es) (omega arith)
 
+-- where the codes of the block with its entry at byte e end, k blocks being behind it
 abbrev pub endAt : ℕ → List ℕ → ℕ → ℕ → ℕ
 endAt L es e k = pick (eqb k 0) L (u32At es (e + 12))
 
@@ -83,7 +113,7 @@ module _ (u B L k n prev e a : ℕ) (es cs : List ℕ) where
     isZ′ = isZ ∙ end-at L es e (k - 1)
 
     -- the codes of that block
-    abbrev pub blockRead : Block
+    abbrev blockRead : Block
     blockRead = readCodes u (min B n - 1) first (part cs a z)
 
     pub turn-back : z < a → left k ≡ stop 7

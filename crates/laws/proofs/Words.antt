@@ -1,40 +1,32 @@
--- A number and its four bytes: bounds, where it stands in parts and joined lists, and that each determines the other.
-use Prim.Native.Nat.{ℕ, zero, suc, _+_, _-_, _*_, _/_, _%_, _≤_, _<_}
+-- A number and its four bytes: its bound, where it stands behind other bytes, and that each determines the other.
+use Prim.Native.Nat.{ℕ, zero, suc, _+_, _*_, _/_, _%_, _≤_, _<_}
 use mathlib.Core.Path.{_≡_, refl, sym, ap, _∙_}
 use mathlib.Core.List.{List, [], _∷_, _++_}
 use native.Mathlib.Nat.{add-zero}
 use native.Mathlib.Omega.{arith}
 use lib.Dec.{lit<}
-use lib.ListN.{length, take, drop, List·getD-append}
-use lib.Seq.{getD-take, getD-drop, getD-append-add}
-use Rattle.paper.specs.Bytes.{byteAt, u32At, u32Bytes, part}
+use lib.ListN.{length, drop}
+use lib.Seq.{getD-drop, getD-append-add}
+use Rattle.paper.specs.Bytes.{byteAt, u32At, u32Bytes}
 use Rattle.laws.proofs.Parts.{AllBytes}
 
+-- four bytes spell a number below 2 to the power of 32
 pub word-bound : (bs : List ℕ) (i : ℕ) → AllBytes bs → u32At bs i < 4294967296
 unfolding u32At
 word-bound bs i all = omega (arith, all i, all (i + 1), all (i + 2), all (i + 3))
 
 -- Two lists whose bytes agree at four positions spell the same number there
-pub word-same : (xs ys : List ℕ) (i j : ℕ) → ((d : ℕ) → d < 4 → byteAt xs (i + d) ≡ byteAt ys (j + d)) → u32At xs i ≡ u32At ys j
+word-same : (xs ys : List ℕ) (i j : ℕ) → ((d : ℕ) → d < 4 → byteAt xs (i + d) ≡ byteAt ys (j + d)) → u32At xs i ≡ u32At ys j
 unfolding u32At
 word-same xs ys i j h =
     let e₀ : byteAt xs i ≡ byteAt ys j = rw (add-zero i, add-zero j) at (h 0 (lit< tt)) in
     rw (e₀, h 1 (lit< tt), h 2 (lit< tt), h 3 (lit< tt))
 
--- behind n bytes, within the first n bytes, within a part
+-- behind n bytes
 pub word-drop : (n : ℕ) (bs : List ℕ) (i : ℕ) → u32At (drop n bs) i ≡ u32At bs (n + i)
 word-drop n bs i = word-same (drop n bs) bs i (n + i) λ d h. getD-drop n bs (i + d) 0 ∙ ap (byteAt bs) (omega arith)
 
-pub word-take : (n : ℕ) (bs : List ℕ) (i : ℕ) → i + 4 ≤ n → u32At (take n bs) i ≡ u32At bs i
-word-take n bs i l = word-same (take n bs) bs i i λ d h. getD-take n bs (i + d) 0 (omega arith)
-
-pub word-part : (bs : List ℕ) (a e i : ℕ) → i + 4 ≤ e - a → u32At (part bs a e) i ≡ u32At bs (a + i)
-word-part bs a e i l = word-take (e - a) (drop a bs) i l ∙ word-drop a bs i
-
--- in two lists joined
-pub word-front : (xs ys : List ℕ) (i : ℕ) → i + 4 ≤ length xs → u32At (xs ++ ys) i ≡ u32At xs i
-word-front xs ys i l = word-same (xs ++ ys) xs i i λ d h. List·getD-append xs ys 0 (i + d) (omega arith)
-
+-- behind another list
 pub word-behind : (xs ys : List ℕ) (i : ℕ) → u32At (xs ++ ys) (length xs + i) ≡ u32At ys i
 word-behind xs ys i = word-same (xs ++ ys) ys (length xs + i) i λ d h. ap (byteAt (xs ++ ys)) (omega arith) ∙ getD-append-add xs ys (i + d) 0
 
@@ -43,6 +35,7 @@ pub length-word : (x : ℕ) → length (u32Bytes x) ≡ 4
 unfolding u32Bytes
 length-word x = refl
 
+-- all of them bytes
 pub all-word : (x : ℕ) → AllBytes (u32Bytes x)
 unfolding u32Bytes
 all-word x zero = omega arith
@@ -83,6 +76,7 @@ module _ (b₀ b₁ b₂ b₃ : ℕ) (l₀ : b₀ < 256) (l₁ : b₁ < 256) (l�
       let i₃ : x / 16777216 % 256 ≡ b₃ = rw d₃ (omega arith) in
       rw (i₀, i₁, i₂, i₃)
 
+-- bytes begin with those of the number that they spell
 pub word-is : (bs : List ℕ) → AllBytes bs → 4 ≤ length bs → bs ≡ u32Bytes (u32At bs 0) ++ drop 4 bs
 unfolding u32At
 word-is [] all h = absurd (omega arith)

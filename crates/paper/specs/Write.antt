@@ -1,4 +1,4 @@
--- [The index, read from its end; Numbers of refusal] Writing a record from slots and a cut: its bytes, the refusals, the buffer afterwards.
+-- [The index, read from its end; Numbers of refusal] How a record is made: its bytes, the refusals, the buffer afterwards.
 use Prim.Native.Nat.{ℕ, zero, suc, _+_, _-_, _*_}
 use mathlib.Core.Path.{_≡_}
 use mathlib.Core.Bool.{Bool}

@@ -1,0 +1,124 @@
+-- The plain words on lists: where a number stands, those that pass a test, numbers that rise by one, and the last.
+use Prim.Native.Nat.{ℕ, zero, suc, _+_}
+use mathlib.Core.Path.{_≡_, refl, sym, ap, _∙_}
+use mathlib.Core.Bool.{Bool, true, false, _||_, or-assoc, or-true, or-false, true≢false}
+use mathlib.Core.Logic.{_↔_}
+use mathlib.Core.List.{List, [], _∷_, _++_}
+use native.Mathlib.Decide.{ℕ-discrete}
+use native.Mathlib.Nat.{add-zero, zero-add}
+use native.Mathlib.Omega.{arith}
+use lib.Dec.{eqb}
+use borrow.Author.Tests.{eq-eqb, ne-eqb}
+use Rattle.paper.specs.Lists.{pick, has, keep, upFrom, lastOf}
+
+-- x is one of the list
+pub data In (x : ℕ) : List ℕ → Type 0 where
+  here : {y : ℕ} {ys : List ℕ} → x ≡ y → In x (y ∷ ys)
+  there : {y : ℕ} {ys : List ℕ} → In x ys → In x (y ∷ ys)
+
+-- `has`, one element at a time
+pub has-none : (x : ℕ) → has x [] ≡ false
+unfolding has
+has-none x = refl
+
+-- the first is x
+pub has-here : (x y : ℕ) (ys : List ℕ) → x ≡ y → has x (y ∷ ys) ≡ true
+unfolding has
+has-here x y ys e = simp (eq-eqb _ _ e)
+
+-- the first is another
+pub has-there : (x y : ℕ) (ys : List ℕ) → ¬ (x ≡ y) → has x (y ∷ ys) ≡ has x ys
+unfolding has
+has-there x y ys n = simp (ne-eqb _ _ n)
+
+-- has says so of each that is one of the list
+pub has-in : (x : ℕ) (ys : List ℕ) → In x ys → has x ys ≡ true
+has-in x (y ∷ ys) (here e) = has-here x y ys e
+has-in x (y ∷ ys) (there i) =
+    elim (ℕ-discrete x y) [
+      | yes e ↦ has-here x y ys e
+      | no n ↦ has-there x y ys n ∙ has-in x ys i
+    ]
+
+-- where `has` says so, x is one of the list
+pub in-has : (x : ℕ) (ys : List ℕ) → has x ys ≡ true → In x ys
+in-has x [] h = absurd (true≢false (sym h ∙ has-none x))
+in-has x (y ∷ ys) h =
+    elim (ℕ-discrete x y) [
+      | yes e ↦ here e
+      | no n ↦ there (in-has x ys (sym (has-there x y ys n) ∙ h))
+    ]
+
+-- each says the other
+pub has-exactly : (x : ℕ) (ys : List ℕ) → (has x ys ≡ true) ↔ In x ys
+has-exactly x ys = (in-has x ys, has-in x ys)
+
+-- two lists joined
+module _ (x : ℕ) where
+  -- in one or in the other
+  pub has-joined : (xs ys : List ℕ) → has x (xs ++ ys) ≡ has x xs || has x ys
+  unfolding has
+  has-joined [] ys = refl
+  has-joined (y ∷ xs) ys = rw (has-joined xs ys) (sym (or-assoc (eqb x y) (has x xs) (has x ys)))
+
+  -- a part that does not hold x plays no part
+  pub has-front : (xs ys : List ℕ) → has x ys ≡ false → has x (xs ++ ys) ≡ has x xs
+  has-front xs ys h = has-joined xs ys ∙ rw h (or-false (has x xs))
+
+  -- nor if it is the first
+  pub has-behind : (xs ys : List ℕ) → has x xs ≡ false → has x (xs ++ ys) ≡ has x ys
+  has-behind xs ys h = has-joined xs ys ∙ rw h
+
+  -- a part that holds x is enough
+  pub in-front : (xs ys : List ℕ) → has x xs ≡ true → has x (xs ++ ys) ≡ true
+  in-front xs ys h = has-joined xs ys ∙ rw h
+
+  -- also if it is the second
+  pub in-behind : (xs ys : List ℕ) → has x ys ≡ true → has x (xs ++ ys) ≡ true
+  in-behind xs ys h = has-joined xs ys ∙ rw h (or-true (has x xs))
+
+-- Those that pass a test
+module _ (t : ℕ → Bool) where
+  -- one that passes stays
+  pub keep-pass : (x : ℕ) (xs : List ℕ) → t x ≡ true → keep t (x ∷ xs) ≡ x ∷ keep t xs
+  unfolding keep
+  keep-pass x xs e = rw e
+
+  -- and one that fails goes
+  pub keep-fail : (x : ℕ) (xs : List ℕ) → t x ≡ false → keep t (x ∷ xs) ≡ keep t xs
+  unfolding keep
+  keep-fail x xs e = rw e
+
+  -- those of two lists joined
+  pub keep-join : (xs ys : List ℕ) → keep t (xs ++ ys) ≡ keep t xs ++ keep t ys
+  unfolding keep
+  keep-join [] ys = refl
+  keep-join (x ∷ xs) ys = rw (keep-join xs ys) (go (t x))
+    where
+      go : (b : Bool) → pick b (x ∷ (keep t xs ++ keep t ys)) (keep t xs ++ keep t ys) ≡ pick b (x ∷ keep t xs) (keep t xs) ++ keep t ys
+      go true = refl
+      go false = refl
+
+  -- of the k numbers from x on: x passes
+  pub up-pass : (x k : ℕ) → t x ≡ true → keep t (upFrom x (suc k)) ≡ x ∷ keep t (upFrom (x + 1) k)
+  unfolding upFrom
+  up-pass x k e = keep-pass x (upFrom (x + 1) k) e
+
+  -- or fails
+  pub up-fail : (x k : ℕ) → t x ≡ false → keep t (upFrom x (suc k)) ≡ keep t (upFrom (x + 1) k)
+  unfolding upFrom
+  up-fail x k e = keep-fail x (upFrom (x + 1) k) e
+
+-- numbers that rise by one, joined
+pub up-join : (x j k : ℕ) → upFrom x (j + k) ≡ upFrom x j ++ upFrom (x + j) k
+unfolding upFrom
+up-join x zero k = simp (add-zero, zero-add)
+up-join x (suc j) k =
+    let n : suc j + k ≡ suc (j + k) = omega arith in
+    let e : x + 1 + j ≡ x + suc j = omega arith in
+    ap (upFrom x) n ∙ ap (λ (l : List ℕ). x ∷ l) (up-join (x + 1) j k ∙ ap (λ (y : ℕ). upFrom (x + 1) j ++ upFrom y k) e)
+
+-- the last of joined lists
+pub last-join : (p : ℕ) (xs ys : List ℕ) → lastOf p (xs ++ ys) ≡ lastOf (lastOf p xs) ys
+last-join p [] ys = refl
+last-join p (x ∷ xs) ys = last-join x xs ys

@@ -1,0 +1,39 @@
+-- One name of an index: row 11, and what an accepted name says of the index and of its record.
+use Prim.Native.Nat.{ℕ, _≤_, _<_}
+use mathlib.Core.Path.{_≡_, sym, ap, _∙_}
+use mathlib.Core.List.{List, [], _∷_}
+use native.Mathlib.Decide.{decLt}
+use native.Mathlib.Omega.{arith}
+use borrow.Author.Tests.{lt-ltb, le-ltb}
+use Rattle.paper.specs.Lists.{leading}
+use Rattle.paper.specs.Refusal.{verdict, accepted, fault11}
+use Rattle.paper.specs.Index.{kOf}
+use Rattle.paper.specs.Look.{look}
+use Rattle.paper.specs.OneList.{nameFault}
+use Rattle.paper.specs.declared.Verdict.{Verdict}
+use Rattle.laws.proofs.Frames.{Accepted, looked, or-second, or-both}
+
+-- 11, of one name
+module _ (k name : ℕ) (rest : Verdict) where
+  pub name-below : name < k → fault11 k (name ∷ []) rest ≡ rest
+  unfolding fault11 leading
+  name-below l = simp (lt-ltb _ _ l)
+
+  pub name-past : k ≤ name → fault11 k (name ∷ []) rest ≡ verdict 11 0
+  unfolding fault11 leading
+  name-past l = simp (le-ltb _ _ l)
+
+-- an accepted name: the index is accepted, and the name is one of its lists
+pub record Named (bs : List ℕ) (name : ℕ) : Type 0 where
+  pub index : Accepted bs
+  pub below : name < kOf bs
+  pub is : nameFault bs name ≡ accepted
+
+-- so it is where no fault is found
+pub named : (bs : List ℕ) (name : ℕ) → nameFault bs name .number ≡ 0 → Named bs name
+unfolding nameFault
+named bs name ok = let p = or-both _ _ ok in go (p .0) (p .1) (decLt name (kOf bs))
+  where
+    go : look bs .number ≡ 0 → fault11 (kOf bs) (name ∷ []) accepted .number ≡ 0 → Dec (name < kOf bs) → Named bs name
+    go z e (yes l) = record { index = looked bs z; below = l; is = or-second _ _ z ∙ name-below (kOf bs) name accepted l }
+    go z e (no g) = absurd (let f = sym (ap (λ (v : Verdict). v .number) (name-past (kOf bs) name accepted (omega arith))) ∙ e in omega arith)
