@@ -1,0 +1,8 @@
+-- Theorems about records and lists.
+pub mod Rising
+pub mod Bits
+pub mod Parting
+pub mod Blocks
+pub mod Chains
+pub mod Sound
+pub mod Seeks

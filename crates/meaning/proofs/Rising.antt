@@ -1,0 +1,85 @@
+-- Strictly ascending lists of slots, and where a slot stands in one.
+use Prim.Native.Nat.{ℕ, _+_, _≤_, _<_}
+use mathlib.Core.Path.{_≡_, sym, _∙_}
+use mathlib.Core.Bool.{true, false}
+use mathlib.Core.List.{List, [], _∷_, _++_}
+use native.Mathlib.Omega.{arith}
+use lib.ListN.{length}
+use Rattle.paper.specs.Lists.{has, lastOf}
+use Rattle.laws.proofs.Lists.{has-none, has-here, has-there}
+
+-- each slot is above the one before it, the first above prev, and none above u
+abbrev pub Ascends : ℕ → ℕ → List ℕ → Type 0
+Ascends u prev [] = Unit {0}
+Ascends u prev (x ∷ xs) = (prev < x) × (x ≤ u) × Ascends u x xs
+
+-- Ascending lists: the bounds may be widened
+pub rise-lower : (u l p : ℕ) (xs : List ℕ) → l ≤ p → Ascends u p xs → Ascends u l xs
+rise-lower u l p [] h a = tt
+rise-lower u l p (x ∷ xs) h a = (omega arith, a .1, a .2)
+
+-- the upper one
+pub rise-higher : (v u p : ℕ) (xs : List ℕ) → u ≤ v → Ascends u p xs → Ascends v p xs
+rise-higher v u p [] h a = tt
+rise-higher v u p (x ∷ xs) h a = (a .0, omega arith, rise-higher v u x xs h (a .2))
+
+-- the last slot is not below the start
+pub last-most : (u p : ℕ) (xs : List ℕ) → Ascends u p xs → p ≤ lastOf p xs
+last-most u p [] a = omega arith
+last-most u p (x ∷ xs) a = let r = last-most u x xs (a .2) in omega arith
+
+-- and not above u
+pub last-within : (u p : ℕ) (xs : List ℕ) → p ≤ u → Ascends u p xs → lastOf p xs ≤ u
+last-within u p [] h a = h
+last-within u p (x ∷ xs) h a = last-within u x xs (a .1) (a .2)
+
+-- two of them joined
+module _ (u : ℕ) where
+  -- the second goes on from the last slot of the first
+  pub rise-join : (p : ℕ) (xs ys : List ℕ) → Ascends u p xs → Ascends u (lastOf p xs) ys → Ascends u p (xs ++ ys)
+  rise-join p [] ys a b = b
+  rise-join p (x ∷ xs) ys a b = (a .0, a .1, rise-join x xs ys (a .2) b)
+
+  -- the first part of a list
+  pub rise-front : (p : ℕ) (xs ys : List ℕ) → Ascends u p (xs ++ ys) → Ascends u p xs
+  rise-front p [] ys a = tt
+  rise-front p (x ∷ xs) ys a = (a .0, a .1, rise-front x xs ys (a .2))
+
+  -- the second part of it
+  pub rise-back : (p : ℕ) (xs ys : List ℕ) → Ascends u p (xs ++ ys) → Ascends u (lastOf p xs) ys
+  rise-back p [] ys a = a
+  rise-back p (x ∷ xs) ys a = rise-back x xs ys (a .2)
+
+  -- there are no more of them than numbers above p within u
+  pub rise-length : (p : ℕ) (xs : List ℕ) → p ≤ u → Ascends u p xs → p + length xs ≤ u
+  rise-length p [] h a = omega arith
+  rise-length p (x ∷ xs) h a = let r = rise-length x xs (a .1) (a .2) in omega arith
+
+-- what is not above the start, or is above the end, is not in the list
+pub has-low : (u p x : ℕ) (xs : List ℕ) → Ascends u p xs → x ≤ p → has x xs ≡ false
+has-low u p x [] a h = has-none x
+has-low u p x (y ∷ ys) a h = has-there x y ys (omega arith) ∙ has-low u y x ys (a .2) (omega arith)
+
+-- one above u
+pub has-high : (u p x : ℕ) (xs : List ℕ) → Ascends u p xs → u < x → has x xs ≡ false
+has-high u p x [] a h = has-none x
+has-high u p x (y ∷ ys) a h = has-there x y ys (omega arith) ∙ has-high u y x ys (a .2) h
+
+-- one above the last slot
+pub has-after : (u p x : ℕ) (xs : List ℕ) → Ascends u p xs → lastOf p xs < x → has x xs ≡ false
+has-after u p x [] a h = has-none x
+has-after u p x (y ∷ ys) a h = let m = last-most u y ys (a .2) in has-there x y ys (omega arith) ∙ has-after u y x ys (a .2) h
+
+-- A search in an ascending list may stop at the first slot that is not below x
+module _ (x y : ℕ) (ys : List ℕ) where
+  -- a slot above x: x is not there
+  pub stop-above : (u : ℕ) → Ascends u y ys → x < y → has x (y ∷ ys) ≡ false
+  stop-above u a h = has-there x y ys (omega arith) ∙ has-low u y x ys a (omega arith)
+
+  -- x itself
+  pub stop-at : y ≡ x → has x (y ∷ ys) ≡ true
+  stop-at e = has-here x y ys (sym e)
+
+  -- a slot below x: x can only stand behind it
+  pub pass-below : y < x → has x (y ∷ ys) ≡ has x ys
+  pass-below h = has-there x y ys (omega arith)

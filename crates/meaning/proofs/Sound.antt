@@ -1,0 +1,235 @@
+-- An accepted record: its parts make it up, its slots ascend, there are as many as it counts, and where each of them is found.
+use Prim.Native.Nat.{ℕ, zero, suc, _+_, _-_, _*_, _≤_, _<_, min}
+use mathlib.Core.Path.{_≡_, refl, sym, ap, _∙_}
+use mathlib.Core.Bool.{false}
+use mathlib.Core.List.{List, _∷_, flatten}
+use native.Mathlib.Decide.{ℕ-discrete}
+use native.Mathlib.Nat.{zero-add}
+use native.Mathlib.Omega.{arith}
+use lib.ListN.{length, getD, drop, length-append, length-take, length-drop}
+use Rattle.paper.specs.Lists.{has, lastOf}
+use Rattle.paper.specs.Tail.{Tail, blockCount, firstSlot, offsetOf, readBlocks, readTail}
+use Rattle.paper.specs.Record.{cutOf, tailCount, codeLength, bitLength, bitsOf, behindBits, entriesOf, codesOf, bitAt, slotsToCut, tailIn, tailOf, recordFault}
+use Rattle.paper.specs.Held.{contents, countOf, entryOf}
+use Rattle.laws.proofs.Lists.{has-front, has-behind}
+use Rattle.laws.proofs.Rounding.{rounds-ceil, rounds-left}
+use Rattle.laws.proofs.Tails.{tail-offset, tail-blocks}
+use Rattle.laws.proofs.Records.{Fits, fits-6}
+use Rattle.meaning.proofs.Rising.{Ascends, rise-higher, rise-lower, rise-join, last-within, has-low, has-high}
+use Rattle.meaning.proofs.Bits.{bits-rise, bits-has}
+use Rattle.meaning.proofs.Blocks.{blockEnd, codesRead, BlockIs, Chain, blocks-sound}
+use Rattle.meaning.proofs.Chains.{blockAt, block-count, chain-length, chain-rise, chain-block, chain-above, chain-count, chain-before, chain-has, chain-first}
+
+-- The parts of a record: m, the number of its blocks; their entries; the code bytes
+abbrev pub blocksOf : ℕ → List ℕ → ℕ
+blocksOf B r = blockCount B (tailCount r)
+
+-- its skip entries
+abbrev pub skipsOf : ℕ → List ℕ → List ℕ
+skipsOf B r = entriesOf (blocksOf B r) (behindBits r)
+
+-- its code bytes
+abbrev pub codeBytesOf : ℕ → List ℕ → List ℕ
+codeBytesOf B r = codesOf (blocksOf B r) (behindBits r)
+
+module _ (u B : ℕ) (r : List ℕ) (pos : 1 ≤ B) (ok : recordFault u B (length r) r ≡ 0) where
+  the-parts : Fits u B (length r) (cutOf r) (tailCount r) (codeLength r) × (tailOf u B r .fault ≡ 0)
+  unfolding recordFault
+  the-parts = fits-6 u B (length r) (cutOf r) (tailCount r) (codeLength r) (tailOf u B r .fault) ok
+
+  -- The parts: the cut is within u
+  pub cut-within : cutOf r ≤ u
+  cut-within = the-parts .0 .cut
+
+  -- n, the tail count, is at most the number of slots above the cut
+  pub tail-fits : tailCount r ≤ u - cutOf r
+  tail-fits = the-parts .0 .count
+
+  -- head, bits, entries and codes make up the record
+  pub parts-sum : 12 + bitLength (cutOf r) + 8 * blocksOf B r + codeLength r ≡ length r
+  parts-sum = the-parts .0 .sum
+
+  -- the tail is read without a fault
+  tail-sound : tailOf u B r .fault ≡ 0
+  tail-sound = the-parts .1
+
+  -- the entries are 8 m bytes
+  pub skips-length : length (skipsOf B r) ≡ 8 * blocksOf B r
+  skips-length = let s = parts-sum in rw (length-take, length-drop, length-drop) (omega arith)
+
+  -- and the code bytes: L of them
+  pub codes-length : length (codeBytesOf B r) ≡ codeLength r
+  codes-length = let s = parts-sum in rw (length-drop, length-drop, length-drop) (omega arith)
+
+  -- the tail, as it is read
+  read : Tail
+  read = readTail u B (cutOf r) (tailCount r) (codeLength r) (skipsOf B r) (codeBytesOf B r)
+
+  tail-is : tailOf u B r ≡ read
+  unfolding tailOf tailIn read
+  tail-is = refl
+
+  -- the codes of block 0 begin at 0
+  first-offset : offsetOf (skipsOf B r) 0 ≡ 0
+  unfolding read
+  first-offset =
+      elim (ℕ-discrete (offsetOf (skipsOf B r) 0) 0) [
+        | yes e ↦ e
+        | no f ↦
+            absurd
+            (let t = tail-is ∙ tail-offset u B (cutOf r) (tailCount r) (codeLength r) (skipsOf B r) (codeBytesOf B r) f in
+            let z : 7 ≡ 0 = sym (ap (λ (t : Tail). t .fault) t) ∙ tail-sound in
+            omega arith)
+      ]
+
+  from-none : tailCount r ≡ tailCount r - 0 * B
+  from-none = omega arith
+
+  blocks-are : tailOf u B r
+      ≡ readBlocks u B (codeLength r) (blocksOf B r) (tailCount r - 0 * B) (cutOf r) 0 (drop (8 * 0) (skipsOf B r)) (drop 0 (codeBytesOf B r))
+  unfolding read
+  blocks-are =
+      tail-is
+      ∙ tail-blocks u B (cutOf r) (tailCount r) (codeLength r) (skipsOf B r) (codeBytesOf B r) first-offset
+      ∙ ap (λ (n : ℕ). readBlocks u B (codeLength r) (blocksOf B r) n (cutOf r) 0 (skipsOf B r) (codeBytesOf B r)) from-none
+
+  -- its blocks, from block 0 on, behind the cut
+  tail-chain : Chain u B (codeLength r) (blocksOf B r) (tailCount r) (skipsOf B r) (codeBytesOf B r) pos 0 (cutOf r) (tailOf u B r .blocks)
+  tail-chain =
+      rw blocks-are
+      (blocks-sound u B (codeLength r) (blocksOf B r) (tailCount r) (skipsOf B r) (codeBytesOf B r) pos (blocksOf B r) 0 (cutOf r) 0 (omega arith)
+      (λ l. sym first-offset) (sym (ap (λ (t : Tail). t .fault) blocks-are) ∙ tail-sound))
+
+  -- The tail: n slots above the cut, ascending within u, in m blocks
+  pub tail-rise : Ascends u (cutOf r) (flatten (tailOf u B r .blocks))
+  tail-rise = chain-rise u B _ _ _ _ _ pos (tailOf u B r .blocks) 0 (cutOf r) tail-chain
+
+  -- as many as the head says
+  pub blocks-number : length (tailOf u B r .blocks) ≡ blocksOf B r
+  blocks-number = rw zero-add at (chain-length u B _ _ _ _ _ pos (tailOf u B r .blocks) 0 (cutOf r) tail-chain)
+
+  tail-count : length (flatten (tailOf u B r .blocks)) ≡ tailCount r
+  tail-count = chain-count u B _ _ _ _ _ pos refl (tailOf u B r .blocks) 0 (cutOf r) tail-chain ∙ sym from-none
+
+  -- The whole list: it ascends in 1..u, and has as many slots as the record counts
+  pub contents-rise : Ascends u 0 (contents u B r)
+  unfolding contents
+  contents-rise =
+      let c = cut-within in
+      let bits = bits-rise (cutOf r) (bitsOf r) in
+      let last = last-within (cutOf r) 0 (slotsToCut (cutOf r) (bitsOf r)) (omega arith) bits in
+      let front = slotsToCut (cutOf r) (bitsOf r) in
+      let behind = flatten (tailOf u B r .blocks) in
+      rise-join u 0 front behind (rise-higher u (cutOf r) 0 front c bits) (rise-lower u (lastOf 0 front) (cutOf r) behind last tail-rise)
+
+  -- as many as counted
+  pub contents-count : length (contents u B r) ≡ countOf r
+  unfolding contents countOf
+  contents-count = rw (length-append, tail-count)
+
+  -- Block b, of m
+  module _ (b : ℕ) (l : b < blocksOf B r) where
+    -- all that is known of it
+    block-is : BlockIs u B (codeLength r) (blocksOf B r) (tailCount r) (skipsOf B r) (codeBytesOf B r) b (blockAt (tailOf u B r .blocks) b)
+    block-is = rw zero-add at (chain-block u B _ _ _ _ _ pos (tailOf u B r .blocks) 0 (cutOf r) b tail-chain (omega arith))
+
+    -- slots are left for it
+    pub block-some-left : 1 ≤ tailCount r - b * B
+    block-some-left = rounds-left (tailCount r) B (blocksOf B r) (rounds-ceil (tailCount r) B pos) b l
+
+    -- how many slots it has
+    pub block-size : length (blockAt (tailOf u B r .blocks) b) ≡ min B (tailCount r - b * B)
+    block-size = block-count u B _ _ _ _ _ b _ block-is pos block-some-left
+
+    -- its codes lie in order and among the code bytes
+    pub block-forward : offsetOf (skipsOf B r) b ≤ blockEnd (codeLength r) (blocksOf B r) (skipsOf B r) b
+    block-forward = block-is .forward
+
+    -- not beyond L
+    pub block-within : blockEnd (codeLength r) (blocksOf B r) (skipsOf B r) b ≤ codeLength r
+    block-within = block-is .within
+
+    -- they have no fault, and give its slots behind the first
+    pub block-sound : codesRead u B (codeLength r) (blocksOf B r) (tailCount r) (skipsOf B r) (codeBytesOf B r) b .fault ≡ 0
+    block-sound = block-is .sound
+
+    -- its slots
+    pub block-slots : blockAt (tailOf u B r .blocks) b
+        ≡ firstSlot (skipsOf B r) b ∷ codesRead u B (codeLength r) (blocksOf B r) (tailCount r) (skipsOf B r) (codeBytesOf B r) b .slots
+    block-slots = block-is .is
+
+  -- The entries: each is the first slot of its block, above the cut and within u, and they rise
+  module _ (b : ℕ) where
+    -- an entry says the first slot of its block
+    pub entry-first : b < blocksOf B r → getD (blockAt (tailOf u B r .blocks) b) 0 0 ≡ firstSlot (skipsOf B r) b
+    entry-first l = rw (block-slots b l)
+
+    -- within u
+    pub first-within : b < blocksOf B r → firstSlot (skipsOf B r) b ≤ u
+    first-within l = block-is b l .low
+
+    -- above the cut
+    first-above : b < blocksOf B r → cutOf r < firstSlot (skipsOf B r) b
+    first-above l = rw zero-add at (chain-above u B _ _ _ _ _ pos (tailOf u B r .blocks) 0 (cutOf r) b tail-chain (omega arith))
+
+    -- and below the first slot of the next block
+    first-rise : b + 1 < blocksOf B r → firstSlot (skipsOf B r) b < firstSlot (skipsOf B r) (b + 1)
+    first-rise l = rw zero-add at (chain-first u B _ _ _ _ _ pos (tailOf u B r .blocks) 0 (cutOf r) b tail-chain (omega arith))
+
+  -- s(0), the cut, and s(1) .. s(m)
+  pub entry-within : (j : ℕ) → j ≤ blocksOf B r → entryOf (cutOf r) (skipsOf B r) j ≤ u
+  unfolding entryOf
+  entry-within zero l = cut-within
+  entry-within (suc b) l = first-within b l
+
+  -- each is below the next
+  entry-next : (j : ℕ) → j < blocksOf B r → entryOf (cutOf r) (skipsOf B r) j < entryOf (cutOf r) (skipsOf B r) (suc j)
+  unfolding entryOf
+  entry-next zero l = first-above 0 l
+  entry-next (suc b) l = let e : b + 1 ≡ suc b = omega arith in rw e at (first-rise b (omega arith))
+
+  -- and so they rise
+  pub entry-rise : (i j : ℕ) → i < j → j ≤ blocksOf B r → entryOf (cutOf r) (skipsOf B r) i < entryOf (cutOf r) (skipsOf B r) j
+  entry-rise i zero h l = absurd (omega arith)
+  entry-rise i (suc j) h l =
+      let n = entry-next j l in
+      elim (ℕ-discrete i j) [
+        | yes e ↦ rw e n
+        | no g ↦ let s = entry-rise i j (omega arith) (omega arith) in omega arith
+      ]
+
+  -- Where a slot stands: up to the cut its bit tells
+  module _ (x : ℕ) where
+    -- its bit
+    pub has-bit : 1 ≤ x → x ≤ cutOf r → has x (contents u B r) ≡ bitAt (bitsOf r) x
+    unfolding contents
+    has-bit l h = has-front x (slotsToCut (cutOf r) (bitsOf r)) _ (has-low u (cutOf r) x _ tail-rise h) ∙ bits-has (cutOf r) (bitsOf r) x l h
+
+    -- above the cut, the tail alone
+    pub has-tail : cutOf r < x → has x (contents u B r) ≡ has x (flatten (tailOf u B r .blocks))
+    unfolding contents
+    has-tail h = has-behind x (slotsToCut (cutOf r) (bitsOf r)) _ (has-high (cutOf r) 0 x _ (bits-rise (cutOf r) (bitsOf r)) h)
+
+    -- where there is no block, and below the first one, there is none
+    pub has-no-block : cutOf r < x → blocksOf B r ≡ 0 → has x (contents u B r) ≡ false
+    has-no-block h z = has-tail h ∙ chain-before u B _ _ _ _ _ pos x (tailOf u B r .blocks) 0 (cutOf r) tail-chain (λ l. absurd (omega arith))
+
+    -- below the first slot of block 0
+    pub has-before : cutOf r < x → x < firstSlot (skipsOf B r) 0 → has x (contents u B r) ≡ false
+    has-before h g = has-tail h ∙ chain-before u B _ _ _ _ _ pos x (tailOf u B r .blocks) 0 (cutOf r) tail-chain (λ l. g)
+
+    -- from the first slot of the last block on, that block tells; and so does a block whose first slot is not above x where the next one's is
+    module _ (b : ℕ) (f : firstSlot (skipsOf B r) b ≤ x) where
+      -- the last block
+      pub has-last : b + 1 ≡ blocksOf B r → has x (contents u B r) ≡ has x (blockAt (tailOf u B r .blocks) b)
+      has-last e =
+          let a = first-above b (omega arith) in
+          has-tail (omega arith)
+          ∙ chain-has u B _ _ _ _ _ pos x (tailOf u B r .blocks) 0 (cutOf r) b tail-chain (omega arith) (rw zero-add f) (λ l. absurd (omega arith))
+
+      -- a block that is not the last
+      pub has-inner : b + 1 < blocksOf B r → x < firstSlot (skipsOf B r) (b + 1) → has x (contents u B r) ≡ has x (blockAt (tailOf u B r .blocks) b)
+      has-inner l g =
+          let a = first-above b (omega arith) in
+          has-tail (omega arith)
+          ∙ chain-has u B _ _ _ _ _ pos x (tailOf u B r .blocks) 0 (cutOf r) b tail-chain (omega arith) (rw zero-add f) (λ l. rw zero-add g)
