@@ -1,0 +1,61 @@
+// Numbers of four bytes, and the bits of a bit part: one bit, and how many are set up to a cut.
+ghost use mathlib.Core.Path.{_≡_};
+ghost use Prim.Native.Nat.{_+_, _*_, _≤_, _<_};
+ghost use lib.ListN.{length};
+ghost use Rattle.paper.specs.Bytes.{byteAt, u32At};
+ghost use Rattle.paper.specs.Record.{bitAt, slotsToCut};
+ghost use Rattle.words.specs.Ones.{topOnes};
+
+// The byte at i, as a wide number. Its bound is promised too, so that sums of bytes are seen to fit.
+pub fn byte(s: &[u8], i: usize) -> u32
+    requires { ⌜ i < length (now s) ⌝ }
+    ensures { λ r. ⌜ (r ≡ byteAt (now (s .entry)) i) × (r < 256) ⌝ }
+{
+    s[i] as u32
+}
+
+// The number that the four bytes from `at` on spell, the lowest byte first.
+pub fn u32_at(s: &[u8], at: usize) -> u32
+    requires { ⌜ at + 4 ≤ length (now s) ⌝ }
+    ensures { λ r. ⌜ r ≡ u32At (now (s .entry)) at ⌝ }
+{
+    byte(s, at) + 256 * byte(s, at + 1) + 65536 * byte(s, at + 2) + 16777216 * byte(s, at + 3)
+}
+
+// Whether bit x is set. Bits are counted from 1, from the top of each byte down.
+pub fn bit(bits: &[u8], x: u32) -> bool
+    requires { ⌜ (0 < x) × (x ≤ 8 * length (now bits)) ⌝ }
+    ensures { λ r. ⌜ r ≡ bitAt (now (bits .entry)) x ⌝ }
+{
+    let before = x - 1;
+    let at = (before / 8) as usize;
+    (bits[at] >> (7 - before % 8)) % 2 == 1
+}
+
+// How many of the top p bits of a byte are set.
+fn top_ones(b: u8, p: u32) -> u32
+    requires { ⌜ p ≤ 8 ⌝ }
+    ensures { λ r. ⌜ (r ≡ topOnes b p) × (r ≤ p) ⌝ }
+{
+    u32::count_ones((b as u32) >> (8 - p))
+}
+
+// How many bits up to the cut are set: those of the whole bytes, then those of the byte that the cut lies in. Bits behind the cut play no
+// part.
+pub fn ones_to(bits: &[u8], cut: u32) -> u32
+    requires { ⌜ cut ≤ 8 * length (now bits) ⌝ }
+    ensures { λ r. ⌜ (r ≡ length (slotsToCut cut (now (bits .entry)))) × (r ≤ cut) ⌝ }
+{
+    let whole = (cut / 8) as usize;
+    let mut ones: u32 = 0;
+    let mut i: usize = 0;
+    while i < whole {
+        ones = ones + top_ones(bits[i], 8);
+        i = i + 1;
+    }
+    let rest = cut % 8;
+    if rest == 0 {
+        return ones;
+    }
+    ones + top_ones(bits[i], rest)
+}
