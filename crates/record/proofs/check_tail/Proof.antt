@@ -1,0 +1,27 @@
+use Rattle.record.proofs.Parts.{tails}
+use borrow.Author.Needs.{needs}
+use Rattle.record.proofs.check_tail.Statement.{statement}
+use Rattle.record.proofs.check_tail.Tie as tie
+use Rattle.record.proofs.check_tail.Reads as reads
+use Rattle.record.proofs.check_tail.Lts as lts
+use Rattle.record.proofs.check_blocks.Reads as check-blocks-reads
+use Rattle.words.proofs.u32_at.Reads as u32-at-reads
+
+returns : tie.Need-returns
+returns c = search tails
+
+u32-at-requires : tie.Need-u32-at-requires
+u32-at-requires c κs = search needs
+
+returns-2 : tie.Need-returns-2
+returns-2 c = search tails
+
+check-blocks-requires : tie.Need-check-blocks-requires
+check-blocks-requires c κs = search needs
+
+returns-3 : tie.Need-returns-3
+returns-3 c = search tails
+
+pub check-tail-spec : {M : Type 1} → statement M
+check-tail-spec =
+    tie.close (tie.spec returns u32-at-requires returns-2 check-blocks-requires returns-3)

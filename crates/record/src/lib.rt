@@ -1,0 +1,202 @@
+// One record: its check, its count, and whether it holds a slot. A record comes as the part of the index that it is. Names are the paper's:
+// u, the cut, n tail slots in m blocks of `block` slots, their entries and their codes.
+ghost use mathlib.Core.Bool.{_&&_};
+ghost use mathlib.Core.Path.{_≡_};
+ghost use Prim.Native.Nat.{_+_, _*_, _-_, _≤_, _<_, min};
+ghost use lib.Dec.{ltb, eqb};
+ghost use lib.ListN.{length, drop};
+ghost use Rattle.paper.specs.Lists.{has};
+ghost use Rattle.paper.specs.Bytes.{ceilDiv};
+ghost use Rattle.paper.specs.Tail.{endOf, readBlocks, readTail};
+ghost use Rattle.paper.specs.Record.{cutOf, tailCount, recordFault};
+ghost use Rattle.paper.specs.Held.{contents, countOf};
+ghost use Rattle.record.specs.Members.{Reached, Ready, foundIn};
+use codes::check_codes;
+use codes::seek_in;
+use words::bit;
+use words::ones_to;
+use words::u32_at;
+
+// x / y, rounded up. The sum is taken in 64 bits, where it cannot wrap.
+fn ceil(x: u32, y: u32) -> usize
+    requires { ⌜ 0 < y ⌝ }
+    ensures { λ r. ⌜ (r ≡ ceilDiv x y) × (r ≤ x) ⌝ }
+{
+    (x as usize + (y as usize - 1)) / y as usize
+}
+
+// The smaller of two numbers: the slots of a block, where fewer than a whole block may be left.
+fn smaller(a: u32, b: u32) -> u32
+    ensures { λ r. ⌜ r ≡ min a b ⌝ }
+{
+    if a < b { a } else { b }
+}
+
+// Where the codes of the block whose entry is at byte `at` end, `blocks` being left: at the next block's offset, or at the end of all codes.
+fn block_end(entries: &[u8], len: usize, blocks: usize, at: usize) -> usize
+    requires { ⌜ (at + 8 * blocks ≤ length (now entries)) × (0 < blocks) ⌝ }
+    ensures { λ r. ⌜ r ≡ endOf len (drop at (now (entries .entry))) (blocks - 1) ⌝ }
+{
+    if blocks == 1 {
+        return len;
+    }
+    u32_at(entries, at + 12) as usize
+}
+
+// The first fault of n slots in m blocks. Each block is judged whole before the next, and its codes are handed on as a part of their own.
+fn check_blocks(entries: &[u8], codes: &[u8], block: u32, m: usize, n: u32, cut: u32, u: u32) -> u32
+    requires { ⌜ (0 < block) × (m ≡ ceilDiv n block) × (8 * m ≤ length (now entries)) ⌝ }
+    ensures { λ r. ⌜ r ≡ readBlocks u block (length (now (codes .entry))) m n cut 0 (now (entries .entry)) (now (codes .entry)) .fault ⌝ }
+{
+    let len = codes.len();
+    let mut blocks = m;
+    let mut left = n;
+    let mut at: usize = 0;
+    let mut start: usize = 0;
+    let mut prev = cut;
+    while 0 < blocks {
+        let first = u32_at(entries, at);
+        let end = block_end(entries, len, blocks, at);
+        if end < start {
+            return 7;
+        }
+        if len < end {
+            return 7;
+        }
+        if first <= prev {
+            return 9;
+        }
+        if u < first {
+            return 9;
+        }
+        let size = smaller(block, left);
+        let got = check_codes(&codes[start..end], size - 1, first, u);
+        if got.fault != 0 {
+            return got.fault;
+        }
+        prev = got.last;
+        start = end;
+        at = at + 8;
+        blocks = blocks - 1;
+        left = left - size;
+    }
+    0
+}
+
+// The first fault of a tail: that of its first offset, then those of its blocks.
+fn check_tail(entries: &[u8], codes: &[u8], block: u32, m: usize, n: u32, cut: u32, u: u32) -> u32
+    requires { ⌜ (0 < block) × (m ≡ ceilDiv n block) × (length (now entries) ≡ 8 * m) ⌝ }
+    ensures { λ r. ⌜ r ≡ readTail u block cut n (length (now (codes .entry))) (now (entries .entry)) (now (codes .entry)) .fault ⌝ }
+{
+    if m == 0 {
+        return 0;
+    }
+    if u32_at(entries, 4) != 0 {
+        return 7;
+    }
+    check_blocks(entries, codes, block, m, n, cut, u)
+}
+
+// Whether there are code bytes without a tail.
+fn stray(n: u32, len: u32) -> bool
+    ensures { λ r. ⌜ r ≡ (eqb n 0 && ltb 0 len) ⌝ }
+{
+    n == 0 && 0 < len
+}
+
+// The first fault of a record, 6 to 9, or 0. None of its bytes is read twice, and those of its bits not at all.
+pub fn check_record(rec: &[u8], u: u32, block: u32) -> u32
+    requires { ⌜ (12 ≤ length (now rec)) × (0 < block) ⌝ }
+    ensures { λ r. ⌜ r ≡ recordFault u block (length (now (rec .entry))) (now (rec .entry)) ⌝ }
+{
+    let cut = u32_at(rec, 0);
+    let n = u32_at(rec, 4);
+    let len = u32_at(rec, 8);
+    if u < cut {
+        return 6;
+    }
+    if u - cut < n {
+        return 6;
+    }
+    if stray(n, len) {
+        return 6;
+    }
+    let m = ceil(n, block);
+    let from = 12 + ceil(cut, 8);
+    let to = from + 8 * m;
+    if to + len as usize != rec.len() {
+        return 6;
+    }
+    check_tail(&rec[from..to], &rec[to..], block, m, n, cut, u)
+}
+
+// How many slots a record holds: its set bits up to the cut, and the slots of its tail.
+pub fn count_record(rec: &[u8]) -> u32
+    requires { ⌜ (12 + ceilDiv (cutOf (now rec)) 8 ≤ length (now rec)) × (cutOf (now rec) + tailCount (now rec) ≤ 1048576) ⌝ }
+    ensures { λ r. ⌜ r ≡ countOf (now (rec .entry)) ⌝ }
+{
+    let cut = u32_at(rec, 0);
+    let n = u32_at(rec, 4);
+    let to = 12 + ceil(cut, 8);
+    ones_to(&rec[12..to], cut) + n
+}
+
+// j, the number of blocks that begin at x or below it. Their first slots rise, so the first of them that is above x ends the count. The entries
+// are gone through one by one: a test reports no looks, and the whole index was looked at before it.
+fn blocks_to(entries: &[u8], m: usize, x: u32) -> usize
+    requires { ⌜ 8 * m ≤ length (now entries) ⌝ }
+    ensures { λ r. ⌜ Reached (now (entries .entry)) m x r ⌝ }
+{
+    let mut j: usize = 0;
+    while j < m {
+        if x < u32_at(entries, 8 * j) {
+            return j;
+        }
+        j = j + 1;
+    }
+    j
+}
+
+// Whether block `nth`, counted from 0, holds x: it is read from its first slot on until a slot that is not below x.
+fn in_block(
+    entries: &[u8],
+    codes: &[u8],
+    block: u32,
+    m: usize,
+    n: u32,
+    u: u32,
+    nth: usize,
+    x: u32,
+) -> bool
+    requires { ⌜ Ready u block m n nth (now entries) (now codes) ⌝ }
+    ensures { λ r. ⌜ r ≡ foundIn u block m n nth x (now (entries .entry)) (now (codes .entry)) ⌝ }
+{
+    let at = 8 * nth;
+    let first = u32_at(entries, at);
+    let start = u32_at(entries, at + 4) as usize;
+    let end = block_end(entries, codes.len(), m - nth, at);
+    let left = (n as usize - nth * block as usize) as u32;
+    let size = smaller(block, left);
+    let got = seek_in(&codes[start..end], size - 1, first, u, x);
+    got.slot == x
+}
+
+// Whether a record without a fault holds the slot x: up to the cut its bit tells, above it the one block that it can stand in.
+pub fn holds(rec: &[u8], u: u32, block: u32, x: u32) -> bool
+    requires { ⌜ (recordFault u block (length (now rec)) (now rec) ≡ 0) × (0 < block) × (0 < x) ⌝ }
+    ensures { λ r. ⌜ r ≡ has x (contents u block (now (rec .entry))) ⌝ }
+{
+    let cut = u32_at(rec, 0);
+    let from = 12 + ceil(cut, 8);
+    if x <= cut {
+        return bit(&rec[12..from], x);
+    }
+    let n = u32_at(rec, 4);
+    let m = ceil(n, block);
+    let to = from + 8 * m;
+    let j = blocks_to(&rec[from..to], m, x);
+    if j == 0 {
+        return false;
+    }
+    in_block(&rec[from..to], &rec[to..], block, m, n, u, j - 1, x)
+}
