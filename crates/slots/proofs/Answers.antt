@@ -1,0 +1,220 @@
+-- What the public functions cite: one law for each way out of each of them.
+use Prim.Native.Nat.{ℕ, _+_, _*_, _-_, _≤_, _<_}
+use mathlib.Core.Path.{_≡_, refl, sym, ap, _∙_}
+use mathlib.Core.Bool.{Bool, false}
+use mathlib.Core.List.{List}
+use native.Mathlib.Decide.{ℕ-discrete}
+use native.Mathlib.Nat.{le-of-lt}
+use native.Mathlib.Omega.{arith}
+use lib.ListN.{length}
+use borrow.Author.Tests.{eq-eqb, ne-eqb}
+use Rattle.paper.specs.Lists.{has}
+use Rattle.paper.specs.Bytes.{part, ceilDiv}
+use Rattle.paper.specs.Record.{cutOf, tailCount, recordFault}
+use Rattle.paper.specs.Held.{contents, countOf}
+use Rattle.paper.specs.Refusal.{verdict, accepted, fault16}
+use Rattle.paper.specs.Index.{uOf, blockLength, kOf, startOf, recordOf, held}
+use Rattle.paper.specs.Look.{frameFault, listFault, listsFault, look}
+use Rattle.paper.specs.OneList.{nameFault, testFault, testAnswer, countAnswer, lent, partAnswer}
+use Rattle.paper.specs.declared.Verdict.{Verdict}
+use Rattle.paper.specs.declared.Part.{Part}
+use Rattle.laws.proofs.Frames.{within-passed, Framed, Accepted, looked, or-first, or-second, start-apart, start-within}
+use Rattle.laws.proofs.Names.{Named, named, name-below, name-past}
+use Rattle.laws.proofs.Links.{sixteen-small, sixteen-large, sixteen}
+use Rattle.record.proofs.Members.{bytes-inside, count-small}
+
+-- looking: f is the number that 1 to 5 give
+module _ (bs : List ℕ) (f : ℕ) (is : verdict f 0 ≡ frameFault bs (length bs)) where
+  pub frame-passes : f ≡ 0 → frameFault bs (length bs) .number ≡ 0
+  frame-passes z = sym (ap (λ (w : Verdict). w .number) is) ∙ z
+
+  pub frame-refuses : ¬ (f ≡ 0) → verdict f 0 ≡ look bs
+  unfolding look
+  frame-refuses n = rw (← is) (sym (or-first (verdict f 0) _ n))
+
+  pub lists-tell : f ≡ 0 → (r : Verdict) → r ≡ listsFault (listFault (uOf bs) (blockLength bs)) bs (startOf bs) (kOf bs) 0 → r ≡ look bs
+  unfolding look
+  lists-tell z r e = e ∙ rw (← is) (sym (or-second (verdict f 0) _ z))
+
+-- a name
+module _ (bs : List ℕ) (name : ℕ) (v : Verdict) (is : v ≡ look bs) where
+  pub look-refuses : ¬ (v .number ≡ 0) → v ≡ nameFault bs name
+  unfolding nameFault
+  look-refuses n = rw (← is) (sym (or-first v _ n))
+
+  module _ (z : v .number ≡ 0) where
+    accepts : Accepted bs
+    accepts = looked bs (sym (ap (λ (w : Verdict). w .number) is) ∙ z)
+
+    pub k-there : 12 ≤ length bs
+    k-there = let l = accepts .frame .least in omega arith
+
+    module _ (k : ℕ) (isK : k ≡ kOf bs) where
+      pub name-refused : k ≤ name → verdict 11 0 ≡ nameFault bs name
+      unfolding nameFault
+      name-refused l = sym (name-past (kOf bs) name accepted (rw (← isK) l)) ∙ rw (← is) (sym (or-second v _ z))
+
+      pub name-good : name < k → verdict 0 0 ≡ nameFault bs name
+      unfolding nameFault
+      name-good l = sym (name-below (kOf bs) name accepted (rw (← isK) l)) ∙ rw (← is) (sym (or-second v _ z))
+
+-- (le-of-lt: no proof needs it today; with it, a test by `<` in place of `<=` fails at what it breaks)
+pub ruleset names = (look-refuses, name-refused, name-good, le-of-lt)
+
+-- where the record lies
+module _ (bs : List ℕ) (name : ℕ) (v : Verdict) (is : v ≡ nameFault bs name) where
+  pub part-refused : ¬ (v .number ≡ 0) → record { number = v .number; place = v .place; start = 0; length = 0 } ≡ partAnswer bs name
+  unfolding partAnswer
+  part-refused n = rw (← is) (simp (ne-eqb _ _ n))
+
+  module _ (z : v .number ≡ 0) where
+    the-name : Named bs name
+    the-name = named bs name (sym (ap (λ (w : Verdict). w .number) is) ∙ z)
+
+    pub named-room : 24 + 4 * kOf bs ≤ length bs
+    named-room = let s = the-name .index .frame .sum in omega arith
+
+    module _ (a e : ℕ) (isA : a ≡ startOf bs name) (isE : e ≡ startOf bs (name + 1)) where
+      pub part-forward : a ≤ e
+      part-forward = rw (isA, isE) (let h = start-apart bs (the-name .index .frame) name (the-name .below) in omega arith)
+
+      pub part-told : record { number = 0; place = 0; start = a; length = e - a } ≡ partAnswer bs name
+      unfolding partAnswer
+      part-told = rw (the-name .is, isA, isE)
+
+-- what a part says, where it is not refused
+pub record Found (bs : List ℕ) (name : ℕ) (p : Part) : Type 0 where
+  pub name-is : Named bs name
+  pub inside : p .start + p .length ≤ length bs
+  pub is : part bs (p .start) (p .start + p .length) ≡ recordOf bs name
+
+module _ (bs : List ℕ) (name : ℕ) where
+  module _ (w : Named bs name) where
+    answered : partAnswer bs name ≡ record { number = 0; place = 0; start = startOf bs name; length = startOf bs (name + 1) - startOf bs name }
+    unfolding partAnswer
+    answered = rw (w .is)
+
+    to-end : startOf bs name + (startOf bs (name + 1) - startOf bs name) ≡ startOf bs (name + 1)
+    to-end = let h = start-apart bs (w .index .frame) name (w .below) in omega arith
+
+    found-at : Found bs name (partAnswer bs name)
+    found-at =
+        rw answered
+        (record {
+          name-is = w;
+          inside = rw to-end (start-within bs (w .index .frame) (name + 1) (let b = w .below in omega arith));
+          is = rw to-end;
+        })
+
+  module _ (p : Part) (is : p ≡ partAnswer bs name) where
+    number-is : p .number ≡ nameFault bs name .number
+    unfolding partAnswer
+    number-is = ap (λ (q : Part). q .number) is
+
+    place-is : p .place ≡ nameFault bs name .place
+    unfolding partAnswer
+    place-is = ap (λ (q : Part). q .place) is
+
+    found : p .number ≡ 0 → Found bs name p
+    found z = rw is (found-at (named bs name (sym number-is ∙ z)))
+
+    nowhere : ¬ (nameFault bs name .number ≡ 0) → (p .start ≡ 0) × (p .length ≡ 0)
+    unfolding partAnswer
+    nowhere n = rw is (simp (ne-eqb _ _ n), simp (ne-eqb _ _ n))
+
+    -- lending
+    pub lend-inside : p .start + p .length ≤ length bs
+    lend-inside =
+        elim (ℕ-discrete (nameFault bs name .number) 0) [
+          | yes z ↦ found (number-is ∙ z) .inside
+          | no n ↦ let e = nowhere n in let f = e .0 in let g = e .1 in omega arith
+        ]
+
+    pub lent-is : (r : List ℕ) → r ≡ part bs (p .start) (p .start + p .length) → r ≡ lent bs name
+    unfolding lent
+    lent-is r isR =
+        isR
+        ∙ elim (ℕ-discrete (nameFault bs name .number) 0) [
+          | yes z ↦ found (number-is ∙ z) .is ∙ sym (simp (eq-eqb _ _ z))
+          | no n ↦ let e = nowhere n in rw (e .0, e .1) (sym (simp (ne-eqb _ _ n)))
+        ]
+
+    -- a refused part is refused by counting and testing too
+    module _ (n : ¬ (p .number ≡ 0)) where
+      n′ : ¬ (nameFault bs name .number ≡ 0)
+      n′ z = n (number-is ∙ z)
+
+      pub count-refused : record { number = p .number; place = p .place; count = 0 } ≡ countAnswer bs name
+      unfolding countAnswer
+      count-refused = rw (number-is, place-is) (simp (ne-eqb _ _ n′))
+
+      pub test-refused : (x : ℕ) → record { number = p .number; place = p .place; yes = false } ≡ testAnswer bs name x
+      unfolding testAnswer testFault
+      test-refused x = rw (number-is, place-is) (simp (ne-eqb _ _ n′))
+
+    module _ (z : p .number ≡ 0) where
+      sound : recordFault (uOf bs) (blockLength bs) (length (recordOf bs name)) (recordOf bs name) ≡ 0
+      sound = found z .name-is .index .lists name (found z .name-is .below)
+
+      frame : Framed bs
+      frame = found z .name-is .index .frame
+
+      pub u-there : 20 ≤ length bs
+      u-there = let l = frame .least in omega arith
+
+      pub B-there : 16 ≤ length bs
+      B-there = let l = frame .least in omega arith
+
+      -- the record that was taken there
+      module _ (r : List ℕ) (isR : r ≡ part bs (p .start) (p .start + p .length)) where
+        record-is : r ≡ recordOf bs name
+        record-is = isR ∙ found z .is
+
+        -- counting
+        pub bits-there : 12 + ceilDiv (cutOf r) 8 ≤ length r
+        bits-there = rw record-is (bytes-inside (uOf bs) (blockLength bs) _ sound (frame .some-B))
+
+        pub sum-small : cutOf r + tailCount r ≤ 1048576
+        sum-small = rw record-is (count-small (uOf bs) (blockLength bs) _ sound (frame .some-B) (frame .most-u))
+
+        pub count-told : (n : ℕ) → n ≡ countOf r → record { number = 0; place = 0; count = n } ≡ countAnswer bs name
+        unfolding countAnswer
+        count-told n e = rw (e, record-is, found z .name-is .is)
+
+      -- testing: f is the number that 16 gives
+      module _ (u x f : ℕ) (isU : u ≡ uOf bs) (isF : verdict f 0 ≡ fault16 u x accepted) where
+        fault-is : verdict f 0 ≡ testFault bs name x
+        unfolding testFault
+        fault-is = isF ∙ rw (found z .name-is .is, isU)
+
+        pub slot-refused : ¬ (f ≡ 0) → record { number = f; place = 0; yes = false } ≡ testAnswer bs name x
+        unfolding testAnswer
+        slot-refused n = rw (← fault-is) (simp (ne-eqb _ _ n))
+
+        module _ (ok : f ≡ 0) where
+          pub slot-some : 0 < x
+          unfolding fault16
+          slot-some = within-passed 16 (λ e. omega arith) accepted 1 u x (sym (ap (λ (v : Verdict). v .number) isF) ∙ ok) .0
+
+          module _ (B : ℕ) (isB : B ≡ blockLength bs) where
+            pub block-some : 0 < B
+            block-some = rw isB (frame .some-B)
+
+            module _ (r : List ℕ) (isR : r ≡ part bs (p .start) (p .start + p .length)) where
+              pub record-sound : recordFault u B (length r) r ≡ 0
+              record-sound = rw (isU, isB, record-is r isR) sound
+
+              pub test-told : (t : Bool) → t ≡ has x (contents u B r) → record { number = 0; place = 0; yes = t } ≡ testAnswer bs name x
+              unfolding testAnswer held
+              test-told t e = rw (e, isU, isB, record-is r isR, ← fault-is, ok)
+
+-- 16
+pub slot-small : (u x : ℕ) → x < 1 → verdict 16 0 ≡ fault16 u x accepted
+slot-small u x = sixteen-small accepted u x u refl
+
+module _ (u x : ℕ) (g : 1 ≤ x) where
+  pub slot-large : u < x → verdict 16 0 ≡ fault16 u x accepted
+  slot-large = sixteen-large accepted u x u refl g
+
+  pub slot-inside : x ≤ u → verdict 0 0 ≡ fault16 u x accepted
+  slot-inside l = sixteen accepted u x u refl g l _ refl

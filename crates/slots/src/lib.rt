@@ -1,0 +1,154 @@
+// The library: every operation answers for any bytes and any numbers, and its promise says all of its answer.
+ghost use mathlib.Core.Path.{_≡_};
+ghost use Prim.Native.Nat.{_+_, _≤_};
+ghost use lib.ListN.{length};
+ghost use Rattle.paper.specs.Bytes as bytes;
+ghost use Rattle.paper.specs.Refusal.{verdict, accepted, fault16};
+ghost use Rattle.paper.specs.Look.{MeetsLook};
+ghost use Rattle.paper.specs.OneList.{nameFault, MeetsTest, MeetsCount, MeetsLend, MeetsPart};
+use frame::check_frame;
+use frame::check_lists;
+use frame::from_end;
+use frame::start_of;
+use paper::Counted;
+use paper::Part;
+use paper::Tested;
+use paper::Verdict;
+use record::count_record;
+use record::holds;
+
+// Looks at a whole index: 1 to 5, then its lists one after the other. The first fault found is the answer.
+pub fn look(index: &[u8]) -> Verdict
+    ensures { λ r. ⌜ MeetsLook (now (index .entry)) r ⌝ }
+{
+    let number = check_frame(index);
+    if number != 0 {
+        return Verdict { number, place: 0 };
+    }
+    check_lists(index)
+}
+
+// The index, then 11 of one name.
+fn check_name(index: &[u8], name: u32) -> Verdict
+    ensures { λ r. ⌜ r ≡ nameFault (now (index .entry)) name ⌝ }
+{
+    let seen = look(index);
+    if seen.number != 0 {
+        return seen;
+    }
+    let k = from_end(index, 12);
+    if k <= name {
+        return Verdict {
+            number: 11,
+            place: 0,
+        };
+    }
+    Verdict {
+        number: 0,
+        place: 0,
+    }
+}
+
+// Where the record of one list lies in the index.
+pub fn part(index: &[u8], name: u32) -> Part
+    ensures { λ r. ⌜ MeetsPart (now (index .entry)) name r ⌝ }
+{
+    let seen = check_name(index, name);
+    if seen.number != 0 {
+        return Part {
+            number: seen.number,
+            place: seen.place,
+            start: 0,
+            length: 0,
+        };
+    }
+    let from = start_of(index, name as usize);
+    let to = start_of(index, name as usize + 1);
+    Part {
+        number: 0,
+        place: 0,
+        start: from as u32,
+        length: (to - from) as u32,
+    }
+}
+
+// The record that `part` found: a part of the index itself.
+fn record_at(index: &[u8], found: Part) -> &[u8]
+    requires { ⌜ found .start + found .length ≤ length (now index) ⌝ }
+    ensures { λ r. ⌜ now r ≡ bytes.part (now (index .entry)) (found .start) (found .start + found .length) ⌝ }
+{
+    let from = found.start as usize;
+    let to = from + found.length as usize;
+    &index[from..to]
+}
+
+// Lends the record of one list, a part of the caller's own slice. It is empty exactly where `count` refuses: a refused part lies from 0 to 0.
+pub fn lend(index: &[u8], name: u32) -> &[u8]
+    ensures { λ r. ⌜ MeetsLend (now (index .entry)) name (now r) ⌝ }
+{
+    let found = part(index, name);
+    record_at(index, found)
+}
+
+// Counts the slots that one list holds.
+pub fn count(index: &[u8], name: u32) -> Counted
+    ensures { λ r. ⌜ MeetsCount (now (index .entry)) name r ⌝ }
+{
+    let found = part(index, name);
+    if found.number != 0 {
+        return Counted {
+            number: found.number,
+            place: found.place,
+            count: 0,
+        };
+    }
+    let size = count_record(record_at(index, found));
+    Counted {
+        number: 0,
+        place: 0,
+        count: size,
+    }
+}
+
+// 16 of a slot, or 0 where it lies in 1..u.
+fn check_slot(slot: u32, u: u32) -> u32
+    ensures { λ r. ⌜ verdict r 0 ≡ fault16 u slot accepted ⌝ }
+{
+    if slot < 1 {
+        return 16;
+    }
+    if u < slot {
+        return 16;
+    }
+    0
+}
+
+// Tests whether one list holds a slot.
+pub fn test(index: &[u8], name: u32, slot: u32) -> Tested
+    ensures { λ r. ⌜ MeetsTest (now (index .entry)) name slot r ⌝ }
+{
+    let found = part(index, name);
+    if found.number != 0 {
+        return Tested {
+            number: found.number,
+            place: found.place,
+            yes: false,
+        };
+    }
+    let u = from_end(index, 20);
+    let number = check_slot(slot, u);
+    if number != 0 {
+        return Tested {
+            number,
+            place: 0,
+            yes: false,
+        };
+    }
+    let block = from_end(index, 16);
+    let yes = holds(record_at(index, found), u, block, slot);
+    Tested {
+        number: 0,
+        place: 0,
+        yes,
+    }
+}
