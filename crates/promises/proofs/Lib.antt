@@ -1,0 +1,24 @@
+-- The promises: Promises states them, RecordRows and IndexRows say the table's rows, and the other files prove.
+pub mod Promises
+pub mod RecordRows
+pub mod IndexRows
+pub mod WrittenCodes
+pub mod WrittenBlocks
+pub mod WrittenFaults
+pub mod WrittenTails
+pub mod WrittenRecords
+pub mod RecordNumbers
+pub mod RecordSlots
+pub mod IndexReads
+pub mod IndexDirectory
+pub mod IndexFrame
+pub mod IndexLists
+pub mod IndexLooks
+pub mod IndexJudged
+pub mod IndexNumbers
+pub mod IndexRecords
+pub mod OneReading
+pub mod AcceptedLists
+pub mod OperationNumbers
+pub mod OperationAnswers
+pub mod UselessPrograms
