@@ -11,13 +11,12 @@ use Rattle.paper.specs.Bytes.{u32At, part}
 use Rattle.paper.specs.Record.{recordFault}
 use Rattle.paper.specs.Refusal.{verdict, tag, tooShort, fault1, fault2}
 use Rattle.paper.specs.Index.{fromEnd, startOf, uOf, blockLength, kOf, recordOf}
-use Rattle.paper.specs.Look.{frameFault, listFault, listsFault}
+use Rattle.paper.specs.Look.{numbersFault, frameFault, listFault, listsFault, inLists}
 use Rattle.paper.specs.declared.Verdict.{Verdict}
 use Rattle.laws.proofs.Parts.{length-part, part-end}
 use Rattle.laws.proofs.Equals.{same-is}
 use Rattle.laws.proofs.Frames.{framed, start-apart, start-within, lists-end, lists-bad, lists-next}
 use Rattle.laws.proofs.Links.{number-links}
-use Rattle.frame.specs.Stages.{numbersFault, inLists}
 
 -- a number by its distance from the end
 pub from-back : (bs : List ℕ) (d r : ℕ) → r ≡ u32At bs (length bs - d) → r ≡ fromEnd bs d
@@ -72,7 +71,7 @@ not-same a b l = omega arith
 pub ruleset numbers = (number-links, not-same)
 
 -- the whole frame
-pub frame : (bs : List ℕ) (r : Verdict) → r ≡ fault1 (length bs) (fault2 bs (numbersFault bs)) → r ≡ frameFault bs (length bs)
+pub frame : (bs : List ℕ) (r : Verdict) → r ≡ fault1 (length bs) (fault2 bs (numbersFault bs (length bs))) → r ≡ frameFault bs (length bs)
 unfolding frameFault
 frame bs r e = e
 

@@ -5,8 +5,7 @@ ghost use lib.ListN.{length, drop};
 ghost use Rattle.paper.specs.Lists.{same};
 ghost use Rattle.paper.specs.Refusal.{verdict, accepted, tag, tooShort, startsFault};
 ghost use Rattle.paper.specs.Index.{fromEnd, startOf, kOf};
-ghost use Rattle.paper.specs.Look.{frameFault};
-ghost use Rattle.frame.specs.Stages.{numbersFault, inLists};
+ghost use Rattle.paper.specs.Look.{numbersFault, frameFault, inLists};
 use paper::Verdict;
 use record::check_record;
 use words::u32_at;
@@ -75,7 +74,7 @@ fn check_starts(index: &[u8], k: usize) -> u32
 // The numbers of the trailer, 3 to 5. The sum is taken in 64 bits, where it cannot wrap.
 fn check_numbers(index: &[u8]) -> u32
     requires { ⌜ 24 ≤ length (now index) ⌝ }
-    ensures { λ r. ⌜ verdict r 0 ≡ numbersFault (now (index .entry)) ⌝ }
+    ensures { λ r. ⌜ verdict r 0 ≡ numbersFault (now (index .entry)) (length (now (index .entry))) ⌝ }
 {
     if from_end(index, 24) != 1 {
         return 3;

@@ -6,10 +6,9 @@ use mathlib.Core.List.{List, _∷_}
 use native.Mathlib.Decide.{decLe, decLt, ℕ-discrete}
 use native.Mathlib.Omega.{arith}
 use lib.ListN.{take, drop}
-use lib.Dec.{eqb}
 use lib.Seq.{drop-drop}
 use borrow.Author.Tests.{lt-ltb, le-ltb, le-leb, lt-leb, eq-eqb, ne-eqb}
-use Rattle.paper.specs.Lists.{pick, lastOf}
+use Rattle.paper.specs.Lists.{lastOf}
 use Rattle.paper.specs.Bytes.{u32At, part}
 use Rattle.paper.specs.Block.{Block, readCodes}
 use Rattle.paper.specs.Tail.{Tail, stop, join, blockCount, firstSlot, offsetOf, endOf, readBlocks, readTail}
@@ -87,13 +86,6 @@ block-step u B L k n prev a es cs first z isF isZ =
 pub first-at : (es : List ℕ) (e : ℕ) → firstSlot (drop e es) 0 ≡ u32At es e
 first-at es e = word-drop e es 0 ∙ ap (u32At es) (omega arith)
 
--- where the codes of the block with its entry at byte e end, k blocks being behind it
-abbrev pub endAt : ℕ → List ℕ → ℕ → ℕ → ℕ
-endAt L es e k = pick (eqb k 0) L (u32At es (e + 12))
-
-pub end-at : (L : ℕ) (es : List ℕ) (e k : ℕ) → endAt L es e k ≡ endOf L (drop e es) k
-end-at L es e k = ap (pick (eqb k 0) L) (sym (word-drop e es 12))
-
 -- k blocks with n slots are left: their entries from byte e on, their codes from offset a on
 module _ (u B L k n prev e a : ℕ) (es cs : List ℕ) where
   abbrev left : ℕ → Tail
@@ -102,45 +94,42 @@ module _ (u B L k n prev e a : ℕ) (es cs : List ℕ) where
   pub turn-end : k ≤ 0 → left k ≡ stop 0
   turn-end h = let z : k ≡ 0 = omega arith in ap left z ∙ blocks-end u B L n prev a _ _
 
-  module _ (h : 0 < k) (first z : ℕ) (isF : first ≡ u32At es e) (isZ : z ≡ endAt L es e (k - 1)) where
+  module _ (h : 0 < k) (first z : ℕ) (isF : first ≡ u32At es e) (isZ : z ≡ endOf L (drop e es) (k - 1)) where
     some : left k ≡ left (suc (k - 1))
     some = ap left (omega arith)
 
     isF′ : first ≡ firstSlot (drop e es) 0
     isF′ = isF ∙ sym (first-at es e)
 
-    isZ′ : z ≡ endOf L (drop e es) (k - 1)
-    isZ′ = isZ ∙ end-at L es e (k - 1)
-
     -- the codes of that block
     abbrev blockRead : Block
     blockRead = readCodes u (min B n - 1) first (part cs a z)
 
     pub turn-back : z < a → left k ≡ stop 7
-    turn-back l = some ∙ blocks-back u B L _ n prev a _ _ first z isF′ isZ′ l
+    turn-back l = some ∙ blocks-back u B L _ n prev a _ _ first z isF′ isZ l
 
     module _ (l₁ : a ≤ z) where
       pub turn-beyond : L < z → left k ≡ stop 7
-      turn-beyond l = some ∙ blocks-beyond u B L _ n prev a _ _ first z isF′ isZ′ l₁ l
+      turn-beyond l = some ∙ blocks-beyond u B L _ n prev a _ _ first z isF′ isZ l₁ l
 
       module _ (l₂ : z ≤ L) where
         pub turn-low : first ≤ prev → left k ≡ stop 9
-        turn-low l = some ∙ blocks-low u B L _ n prev a _ _ first z isF′ isZ′ l₁ l₂ l
+        turn-low l = some ∙ blocks-low u B L _ n prev a _ _ first z isF′ isZ l₁ l₂ l
 
         module _ (l₃ : prev < first) where
           pub turn-high : u < first → left k ≡ stop 9
-          turn-high l = some ∙ blocks-high u B L _ n prev a _ _ first z isF′ isZ′ l₁ l₂ l₃ l
+          turn-high l = some ∙ blocks-high u B L _ n prev a _ _ first z isF′ isZ l₁ l₂ l₃ l
 
           module _ (l₄ : first ≤ u) where
             pub turn-bad : ¬ (blockRead .fault ≡ 0) → left k ≡ stop (blockRead .fault)
-            turn-bad f = some ∙ blocks-bad u B L _ n prev a _ _ first z isF′ isZ′ l₁ l₂ l₃ l₄ f
+            turn-bad f = some ∙ blocks-bad u B L _ n prev a _ _ first z isF′ isZ l₁ l₂ l₃ l₄ f
 
             codes-on : drop (z - a) (drop a cs) ≡ drop z cs
             codes-on = let on : a + (z - a) ≡ z = omega arith in drop-drop (z - a) a cs ∙ ap (λ (i : ℕ). drop i cs) on
 
             pub turn-next : blockRead .fault ≡ 0
                 → left k ≡ join (first ∷ blockRead .slots) (readBlocks u B L (k - 1) (n - B) (lastOf first (blockRead .slots)) z (drop (e + 8) es) (drop z cs))
-            turn-next f = some ∙ blocks-next u B L _ n prev a _ _ first z isF′ isZ′ l₁ l₂ l₃ l₄ f ∙ rw (drop-drop 8 e es, codes-on)
+            turn-next f = some ∙ blocks-next u B L _ n prev a _ _ first z isF′ isZ l₁ l₂ l₃ l₄ f ∙ rw (drop-drop 8 e es, codes-on)
 
 -- the whole tail: its first offset, then its blocks
 module _ (u B c n L : ℕ) (es cs : List ℕ) where

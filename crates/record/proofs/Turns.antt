@@ -12,7 +12,7 @@ use Rattle.paper.specs.Block.{readCodes}
 use Rattle.paper.specs.Tail.{Tail, endOf, readBlocks}
 use Rattle.laws.proofs.Rounding.{ceil-some, ceil-next}
 use Rattle.laws.proofs.Tails as tails
-use Rattle.laws.proofs.Tails.{endAt, end-at}
+use Rattle.laws.proofs.Words.{word-drop}
 use Rattle.codes.specs.declared.Checked.{Checked}
 use Rattle.codes.specs.InBlock.{checked}
 
@@ -24,7 +24,7 @@ module _ (L : ℕ) (es : List ℕ) (e k : ℕ) where
   pub end-inner : (r : ℕ) → 0 < k → ¬ (k ≡ 1) → r ≡ u32At es (e + 12) → r ≡ endOf L (drop e es) (k - 1)
   end-inner r p n is =
       let z : ¬ (k - 1 ≡ 0) = λ q. n (omega arith) in
-      is ∙ sym (ap (λ t. pick t L (u32At es (e + 12))) (ne-eqb (k - 1) 0 z)) ∙ end-at L es e (k - 1)
+      is ∙ sym (word-drop e es 12) ∙ sym (ap (λ t. pick t L (u32At (drop e es) 12)) (ne-eqb (k - 1) 0 z))
 
 -- what holds at the loop's head: k blocks with n slots are left, their entries from byte e on, their codes from offset a on
 pub record Head (u B L t : ℕ) (es cs : List ℕ) (e k n a prev : ℕ) : Type 0 where
@@ -43,10 +43,7 @@ module _ {u B L t : ℕ} {es cs : List ℕ} {e k n a prev : ℕ} (h : Head u B L
   pub size-some : (size : ℕ) → 0 < B → 0 < k → size ≡ min B n → 1 ≤ size
   size-some size p lt i = let l = ceil-some B p n k (h .count) lt in omega arith
 
-  module _ (lt : 0 < k) (first z : ℕ) (isF : first ≡ u32At es e) (isZ₀ : z ≡ endOf L (drop e es) (k - 1)) where
-    isZ : z ≡ endAt L es e (k - 1)
-    isZ = isZ₀ ∙ sym (end-at L es e (k - 1))
-
+  module _ (lt : 0 < k) (first z : ℕ) (isF : first ≡ u32At es e) (isZ : z ≡ endOf L (drop e es) (k - 1)) where
     pub back : z < a → 7 ≡ t
     back l = by _ (tails.turn-back u B L k n prev e a es cs lt first z isF isZ l)
 

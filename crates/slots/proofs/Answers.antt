@@ -14,7 +14,7 @@ use Rattle.paper.specs.Record.{cutOf, tailCount, recordFault}
 use Rattle.paper.specs.Held.{contents, countOf}
 use Rattle.paper.specs.Refusal.{verdict, accepted, fault16}
 use Rattle.paper.specs.Index.{uOf, blockLength, kOf, startOf, recordOf, held}
-use Rattle.paper.specs.Look.{frameFault, listFault, listsFault, look}
+use Rattle.paper.specs.Look.{frameFault, inLists, look}
 use Rattle.paper.specs.OneList.{nameFault, testFault, testAnswer, countAnswer, lent, partAnswer}
 use Rattle.paper.specs.declared.Verdict.{Verdict}
 use Rattle.paper.specs.declared.Part.{Part}
@@ -32,7 +32,7 @@ module _ (bs : List ℕ) (f : ℕ) (is : verdict f 0 ≡ frameFault bs (length b
   unfolding look
   frame-refuses n = rw (← is) (sym (or-first (verdict f 0) _ n))
 
-  pub lists-tell : f ≡ 0 → (r : Verdict) → r ≡ listsFault (listFault (uOf bs) (blockLength bs)) bs (startOf bs) (kOf bs) 0 → r ≡ look bs
+  pub lists-tell : f ≡ 0 → (r : Verdict) → r ≡ inLists bs → r ≡ look bs
   unfolding look
   lists-tell z r e = e ∙ rw (← is) (sym (or-second (verdict f 0) _ z))
 

@@ -1,6 +1,6 @@
 use borrow.Author.Needs.{needs}
 use Prim.Native.Nat.{_-_}
-use Rattle.frame.specs.Stages.{inLists}
+use Rattle.paper.specs.Look.{inLists}
 use Rattle.frame.proofs.Steps.{Head, room, u-there, B-there, k-there, block-some, lists-begin, lists-done, part-start, part-end-in, record-long, lists-fault, lists-turn}
 use Rattle.frame.proofs.check_lists.Statement.{statement}
 use Rattle.frame.proofs.check_lists.Tie as tie
