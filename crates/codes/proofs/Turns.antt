@@ -1,7 +1,7 @@
 -- The loops over the codes of a block: what is left to read answers as the whole does. One law for each way out of a loop and one for a turn.
-use Prim.Native.Nat.{ℕ, zero, suc, _+_, _-_, _≤_, _<_}
+use Prim.Native.Nat.{ℕ, _+_, _-_, _≤_, _<_}
 use mathlib.Core.Path.{_≡_, refl, sym, ap, _∙_}
-use mathlib.Core.List.{List, [], _∷_}
+use mathlib.Core.List.{List, []}
 use native.Mathlib.Nat.{sub-zero}
 use native.Mathlib.Omega.{arith}
 use lib.ListN.{length, drop}
@@ -18,13 +18,15 @@ use Rattle.codes.specs.declared.Stopped.{Stopped}
 use Rattle.codes.specs.Got.{asCode, Inside}
 use Rattle.codes.specs.InBlock.{checked, stopped}
 
--- a code that was got, as the laws of blocks have it
-is-bad : (bs : List ℕ) (p : ℕ) (g : Got) → asCode bs g ≡ codeOf (drop p bs) → g ≡ Bad → bad ≡ codeOf (drop p bs)
+-- What was got, as the laws of blocks have it: no code
+pub is-bad : (bs : List ℕ) (p : ℕ) (g : Got) → asCode bs g ≡ codeOf (drop p bs) → g ≡ Bad → bad ≡ codeOf (drop p bs)
 is-bad bs p g is e = rw e at is
 
-is-code : (bs : List ℕ) (p : ℕ) (g : Got) (v q : ℕ) → asCode bs g ≡ codeOf (drop p bs) → g ≡ Value v q → code v (drop q bs) ≡ codeOf (drop p bs)
+-- a code
+pub is-code : (bs : List ℕ) (p : ℕ) (g : Got) (v q : ℕ) → asCode bs g ≡ codeOf (drop p bs) → g ≡ Value v q → code v (drop q bs) ≡ codeOf (drop p bs)
 is-code bs p g v q is e = rw e at is
 
+-- which ends within the bytes
 pub within : (bs : List ℕ) (g : Got) (v q : ℕ) → Inside bs g → g ≡ Value v q → q ≤ length bs
 within bs g v q i e = rw e at i
 
@@ -33,23 +35,29 @@ module _ (u : ℕ) (bs : List ℕ) (p prev k : ℕ) (t : Checked) (inv : checked
   by : (r : Block) → readCodes u k prev (drop p bs) ≡ r → checked prev r ≡ t
   by r e = ap (checked prev) (sym e) ∙ inv
 
+  -- no code is left, but a byte is
   pub over : k ≤ 0 → p < length bs → record { fault = 8; last = prev } ≡ t
   over h l = by _ (blocks.turn-left u prev k bs p h l)
 
+  -- nothing is left
   pub done : k ≤ 0 → p ≤ length bs → length bs ≤ p → record { fault = 0; last = prev } ≡ t
   done h l g = by _ (blocks.turn-end u prev k bs p h (omega arith))
 
   module _ (h : 0 < k) (g : Got) (is : asCode bs g ≡ codeOf (drop p bs)) where
+    -- no code stands there
     pub no-code : g ≡ Bad → record { fault = 8; last = prev } ≡ t
     no-code e = by _ (blocks.turn-bad u prev k bs p h (is-bad bs p g is e))
 
     module _ (v q : ℕ) (e : g ≡ Value v q) (le : prev ≤ u) where
+      -- the slot is above u
       pub above : u - prev ≤ v → record { fault = 9; last = prev } ≡ t
       above l = by _ (blocks.turn-above u prev k bs p h v q (is-code bs p g v q is e) (omega arith))
 
+      -- the slot is the next one
       pub turn : v < u - prev → checked (prev + v + 1) (readCodes u (k - 1) (prev + v + 1) (drop q bs)) ≡ t
       turn l = by _ (blocks.turn-next u prev k bs p h v q (is-code bs p g v q is e) (omega arith))
 
+-- all of these
 pub ruleset turns = (over, done, no-code, above, turn, within)
 
 -- seeking: n codes are read and y is the slot read last; the others are left from position p on
@@ -58,6 +66,7 @@ pub record Head (x u : ℕ) (bs : List ℕ) (count : ℕ) (t : Stopped) (p n y :
   pub low : y ≤ u
   pub same : stopped n (seek x y (readCodes u (count - n) y (drop p bs) .slots)) ≡ t
 
+-- none is read
 pub seek-begin : (x u : ℕ) (bs : List ℕ) (count y : ℕ) → y ≤ u → Head x u bs count (stopped 0 (seek x y (readCodes u count y bs .slots))) 0 0 y
 seek-begin x u bs count y l = record { few = omega arith; low = l; same = rw sub-zero }
 
@@ -72,31 +81,28 @@ module _ (x u : ℕ) (bs : List ℕ) (count : ℕ) (t : Stopped) (p n y : ℕ) (
   plain : (s : ℕ) → record { slot = s; codes = n + 0 } ≡ t → record { slot = s; codes = n } ≡ t
   plain s e = let z : n ≡ n + 0 = omega arith in ap (λ (m : ℕ). record { slot = s; codes = m }) z ∙ e
 
+  -- the slot read last is not below x
   pub stop-here : x ≤ y → record { slot = y; codes = n } ≡ t
   stop-here l = plain y (so left _ refl (seek-here x y _ l))
 
   out : (b : Block) → left ≡ b → b .slots ≡ [] → y < x → record { slot = 0; codes = n } ≡ t
   out b e f l = plain 0 (so b _ e (rw f (seek-out x y l)))
 
-  slots-none : (k : ℕ) → k ≤ 0 → readCodes u k y (drop p bs) .slots ≡ []
-  slots-none k l = go (drop p bs) k l
-    where
-      go : (r : List ℕ) (k : ℕ) → k ≤ 0 → readCodes u k y r .slots ≡ []
-      go r (suc k) l = absurd (omega arith)
-      go [] zero l = ap (λ (b : Block). b .slots) (blocks.codes-end u y)
-      go (b ∷ r) zero l = ap (λ (b : Block). b .slots) (blocks.codes-left u y b r)
-
+  -- no code is left
   pub stop-end : count ≤ n → y < x → record { slot = 0; codes = n } ≡ t
-  stop-end l = out left refl (slots-none (count - n) (omega arith))
+  stop-end l = out left refl (blocks.slots-none u y (count - n) (omega arith) (drop p bs))
 
   module _ (lt : n < count) (g : Got) (is : asCode bs g ≡ codeOf (drop p bs)) where
+    -- no code stands there
     pub stop-bad : g ≡ Bad → y < x → record { slot = 0; codes = n } ≡ t
     stop-bad e = out _ (blocks.turn-bad u y (count - n) bs p (omega arith) (is-bad bs p g is e)) refl
 
     module _ (v q : ℕ) (e : g ≡ Value v q) (l : y < x) where
+      -- the slot is above u
       pub stop-above : u - y ≤ v → record { slot = 0; codes = n } ≡ t
       stop-above a = let lo = h .low in out _ (blocks.turn-above u y (count - n) bs p (omega arith) v q (is-code bs p g v q is e) (omega arith)) refl l
 
+      -- the slot is the next one
       pub seek-turn : v < u - y → Head x u bs count t q (n + 1) (y + v + 1)
       seek-turn a =
           let lo = h .low in
@@ -108,4 +114,5 @@ module _ (x u : ℕ) (bs : List ℕ) (count : ℕ) (t : Stopped) (p n y : ℕ) (
           moved : (w : Seek) → stopped n (more w) ≡ t → stopped (n + 1) w ≡ t
           moved w e = let z : n + 1 + w .codes ≡ n + (1 + w .codes) = omega arith in ap (λ (m : ℕ). record { slot = w .slot; codes = m }) z ∙ e
 
+-- all of these
 pub ruleset seeks = (seek-begin, stop-here, stop-end, stop-bad, stop-above, seek-turn, within)

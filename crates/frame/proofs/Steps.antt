@@ -24,10 +24,12 @@ unfolding fromEnd
 from-back bs d r e = e
 
 module _ (bs : List ℕ) (i k r : ℕ) (is : k ≡ fromEnd bs 12) where
+  -- a start in the directory
   pub start-in : i < k → r ≡ fromEnd bs (24 + 4 * (k - i)) → r ≡ startOf bs i
   unfolding startOf
   start-in l e = e ∙ simp (← is, lt-ltb _ _ l)
 
+  -- behind the last list: D
   pub start-past : k ≤ i → r ≡ fromEnd bs 8 → r ≡ startOf bs i
   unfolding startOf
   start-past l e = e ∙ simp (← is, le-ltb _ _ l)
@@ -37,12 +39,14 @@ last-four : (bs : List ℕ) → 24 ≤ length bs → part bs (length bs - 4) (le
 last-four bs l = let e : length bs - 4 + 4 ≡ length bs = omega arith in rw e (part-end bs (length bs - 4))
 
 module _ (r : Bool) (bs : List ℕ) (l : 24 ≤ length bs) where
+  -- they are held against it
   pub tag-is : (r ≡ true → part bs (length bs - 4) (length bs - 4 + 4) ≡ tag) → (part bs (length bs - 4) (length bs - 4 + 4) ≡ tag → r ≡ true)
       → r ≡ same (drop (length bs - 4) bs) tag
   tag-is f g = same-is r _ tag f g ∙ ap (λ (l : List ℕ). same l tag) (last-four bs l)
 
 -- records that would be too short: k of them are left, from record i on
 module _ (start : ℕ → ℕ) (k i : ℕ) (t : Bool) (same : tooShort start (k - i) i ≡ t) where
+  -- none is left
   pub short-none : k ≤ i → false ≡ t
   unfolding tooShort
   short-none l = let z : k - i ≡ 0 = omega arith in ap (λ (m : ℕ). tooShort start m i) (sym z) ∙ same
@@ -51,23 +55,28 @@ module _ (start : ℕ → ℕ) (k i : ℕ) (t : Bool) (same : tooShort start (k 
     some : tooShort start (suc (k - (i + 1))) i ≡ t
     some = let z : k - i ≡ suc (k - (i + 1)) = omega arith in ap (λ (m : ℕ). tooShort start m i) (sym z) ∙ same
 
+    -- the next is too short
     pub short-here : to < from + 12 → true ≡ t
     unfolding tooShort
     short-here l = simp (← isF, ← isT, lt-ltb _ _ l) at some
 
+    -- it is not
     pub short-next : from + 12 ≤ to → tooShort start (k - (i + 1)) (i + 1) ≡ t
     unfolding tooShort
     short-next l = simp (← isF, ← isT, le-ltb _ _ l) at some
 
+-- at first all are left
 pub short-all : (start : ℕ → ℕ) (k : ℕ) → tooShort start (k - 0) 0 ≡ tooShort start k 0
 short-all start k = let z : k - 0 ≡ k = omega arith in ap (λ (m : ℕ). tooShort start m 0) z
 
+-- all of these
 pub ruleset shorts = (short-none, short-here, short-next, short-all)
 
 -- a sum that is greater than the size is not the size. (No proof needs it today; with it, a test by `>` in place of `!=` fails at what it breaks)
 pub not-same : (a b : ℕ) → b < a → ¬ (a ≡ b)
 not-same a b l = omega arith
 
+-- the links of 3 to 5
 pub ruleset numbers = (number-links, not-same)
 
 -- the whole frame
@@ -81,30 +90,37 @@ pub record Head (bs : List ℕ) (u B k : ℕ) (t : Verdict) (from i : ℕ) : Typ
   pub at : from ≡ startOf bs i
   pub same : listsFault (listFault u B) bs (startOf bs) (k - i) i ≡ t
 
+-- all lists are left
 pub lists-begin : (bs : List ℕ) (u B k : ℕ) → frameFault bs (length bs) .number ≡ 0 → u ≡ uOf bs → B ≡ blockLength bs → k ≡ kOf bs
     → Head bs u B k (inLists bs) 0 0
 lists-begin bs u B k ok isU isB isK =
     let z : k - 0 ≡ k = omega arith in
     record { few = omega arith; at = sym (framed bs ok .first); same = rw (z, isU, isB, isK) }
 
+-- an index that passes 1 to 5
 module _ (bs : List ℕ) (ok : frameFault bs (length bs) .number ≡ 0) where
   -- the trailer and the directory are there
-  pub room : 24 + 4 * kOf bs ≤ length bs
-  room = let s = framed bs ok .sum in omega arith
+  pub directory-there : 24 + 4 * kOf bs ≤ length bs
+  directory-there = let s = framed bs ok .sum in omega arith
 
+  -- the number u
   pub u-there : 20 ≤ length bs
   u-there = let l = framed bs ok .least in omega arith
 
+  -- the number B
   pub B-there : 16 ≤ length bs
   B-there = let l = framed bs ok .least in omega arith
 
+  -- the number k
   pub k-there : 12 ≤ length bs
   k-there = let l = framed bs ok .least in omega arith
 
+  -- B is not 0
   pub block-some : (B : ℕ) → B ≡ blockLength bs → 0 < B
   block-some B is = rw is (framed bs ok .some-B)
 
 module _ {bs : List ℕ} (ok : frameFault bs (length bs) .number ≡ 0) {u B k : ℕ} {t : Verdict} {from i : ℕ} (h : Head bs u B k t from i) where
+  -- no list is left
   pub lists-done : k ≤ i → verdict 0 0 ≡ t
   lists-done l = sym (lists-end (listFault u B) bs (startOf bs) (k - i) i (omega arith)) ∙ h .same
 
@@ -112,12 +128,15 @@ module _ {bs : List ℕ} (ok : frameFault bs (length bs) .number ≡ 0) {u B k :
     apart : from + 12 ≤ to
     apart = rw (isT, h .at) (start-apart bs (framed bs ok) i (rw (← isK) l))
 
+    -- the next record lies forward
     pub part-start : from ≤ to
     part-start = omega (arith, apart)
 
+    -- within the index
     pub part-end-in : to ≤ length bs
     part-end-in = rw isT (start-within bs (framed bs ok) (i + 1) (rw (← isK) (omega arith)))
 
+    -- and has 12 bytes or more
     pub record-long : 12 ≤ length (part bs from to)
     record-long = rw (length-part bs from to part-end-in) (omega (arith, apart))
 
@@ -128,12 +147,14 @@ module _ {bs : List ℕ} (ok : frameFault bs (length bs) .number ≡ 0) {u B k :
       fault-is : r ≡ recordFault u B (length (recordOf bs i)) (recordOf bs i)
       fault-is = isR ∙ ap (λ (l : List ℕ). recordFault u B (length l) l) record-is
 
+      -- it has a fault
       pub lists-fault : ¬ (r ≡ 0) → verdict r i ≡ t
       lists-fault n =
           ap (λ (m : ℕ). verdict m i) fault-is
           ∙ sym (lists-bad (listFault u B) bs (startOf bs) (k - i) i (omega arith) (λ z. n (fault-is ∙ z)))
           ∙ h .same
 
+      -- it has none
       pub lists-turn : r ≡ 0 → Head bs u B k t to (i + 1)
       lists-turn z =
           let m : k - i - 1 ≡ k - (i + 1) = omega arith in

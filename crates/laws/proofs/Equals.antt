@@ -17,7 +17,7 @@ never : {X : Type 0} → false ≡ true → X
 never e = absurd (true≢false (sym e))
 
 -- where the test passes they are one list
-same-true : (a b : List ℕ) → same a b ≡ true → a ≡ b
+pub same-true : (a b : List ℕ) → same a b ≡ true → a ≡ b
 unfolding same
 same-true [] [] e = refl
 same-true [] (y ∷ b) e = never e

@@ -166,12 +166,15 @@ module _ (test : ℕ → List ℕ → Verdict) (bs : List ℕ) (start : ℕ → 
 
 -- the first fault of two: the first where it refuses, else the second
 module _ (v w : Verdict) where
+  -- the first refuses
   pub or-first : ¬ (v .number ≡ 0) → orElse v w ≡ v
   or-first n = simp (ne-eqb _ _ n)
 
+  -- the first accepts
   pub or-second : v .number ≡ 0 → orElse v w ≡ w
   or-second z = simp (eq-eqb _ _ z)
 
+  -- the first refuses with a number
   pub or-given : (r p : ℕ) → v ≡ verdict r p → ¬ (r ≡ 0) → orElse v w ≡ verdict r p
   or-given r p e n = or-first (rw e n) ∙ e
 
@@ -188,7 +191,12 @@ pub record Accepted (bs : List ℕ) : Type 0 where
   pub frame : Framed bs
   pub lists : (i : ℕ) → i < kOf bs → recordFault (uOf bs) (blockLength bs) (length (recordOf bs i)) (recordOf bs i) ≡ 0
 
--- so it is where looking finds no fault
+-- 1 to 5 find no fault where looking finds none
+pub frame-looked : (bs : List ℕ) → look bs .number ≡ 0 → frameFault bs (length bs) .number ≡ 0
+unfolding look
+frame-looked bs ok = or-both _ _ ok .0
+
+-- and the index is accepted
 pub looked : (bs : List ℕ) → look bs .number ≡ 0 → Accepted bs
 unfolding look
 looked bs ok =

@@ -16,4 +16,6 @@ pub mod Records
 pub mod Links
 pub mod Frames
 pub mod Names
+pub mod Orders
+pub mod Questions
 pub mod Searches

@@ -1,15 +1,21 @@
--- The plain words on lists: where a number stands, those that pass a test, numbers that rise by one, and the last.
-use Prim.Native.Nat.{ℕ, zero, suc, _+_}
+-- Choice by a test, and the plain words on lists: where a number stands, what each number is, those that pass a test, numbers that rise by one, and the last.
+use Prim.Native.Nat.{ℕ, zero, suc, _+_, _≤_, _<_}
 use mathlib.Core.Path.{_≡_, refl, sym, ap, _∙_}
-use mathlib.Core.Bool.{Bool, true, false, _||_, or-assoc, or-true, or-false, true≢false}
+use mathlib.Core.Bool.{Bool, true, false, _&&_, _||_, and-false, or-assoc, or-true, or-false, true≢false}
 use mathlib.Core.Logic.{_↔_}
-use mathlib.Core.List.{List, [], _∷_, _++_}
+use mathlib.Core.List.{List, [], _∷_, _++_, map}
 use native.Mathlib.Decide.{ℕ-discrete}
 use native.Mathlib.Nat.{add-zero, zero-add}
 use native.Mathlib.Omega.{arith}
 use lib.Dec.{eqb}
+use lib.ListN.{length, getD}
 use borrow.Author.Tests.{eq-eqb, ne-eqb}
 use Rattle.paper.specs.Lists.{pick, has, keep, upFrom, lastOf}
+
+-- a choice between one thing and itself
+pub same-either : {A : Type 0} (t : Bool) (v : A) → pick t v v ≡ v
+same-either true v = refl
+same-either false v = refl
 
 -- x is one of the list
 pub data In (x : ℕ) : List ℕ → Type 0 where
@@ -52,6 +58,29 @@ in-has x (y ∷ ys) h =
 -- each says the other
 pub has-exactly : (x : ℕ) (ys : List ℕ) → (has x ys ≡ true) ↔ In x ys
 has-exactly x ys = (in-has x ys, has-in x ys)
+
+-- the number at a place is one of the list
+pub in-at : (xs : List ℕ) (i : ℕ) → i < length xs → In (getD xs i 0) xs
+in-at [] i l = absurd (omega arith)
+in-at (x ∷ xs) zero l = here refl
+in-at (x ∷ xs) (suc i) l = there (in-at xs i (omega arith))
+
+-- each of a list is of one kind
+abbrev pub Each : {A : Type 0} → (A → Type 0) → List A → Type 0
+Each P [] = Unit {0}
+Each P (x ∷ xs) = P x × Each P xs
+
+module _ (P : ℕ → Type 0) where
+  -- and so is the one at a place
+  pub each-at : (xs : List ℕ) → Each P xs → (i : ℕ) → i < length xs → P (getD xs i 0)
+  each-at [] e i l = absurd (omega arith)
+  each-at (x ∷ xs) e zero l = e .0
+  each-at (x ∷ xs) e (suc i) l = each-at xs (e .1) i (omega arith)
+
+  -- and any of them
+  pub each-in : (xs : List ℕ) → Each P xs → (z : ℕ) → In z xs → P z
+  each-in (x ∷ xs) e z (here i) = rw i (e .0)
+  each-in (x ∷ xs) e z (there i) = each-in xs (e .1) z i
 
 -- two lists joined
 module _ (x : ℕ) where
@@ -99,6 +128,16 @@ module _ (t : ℕ → Bool) where
       go true = refl
       go false = refl
 
+  -- they are not more than all
+  pub keep-length : (xs : List ℕ) → length (keep t xs) ≤ length xs
+  unfolding keep
+  keep-length [] = omega arith
+  keep-length (x ∷ xs) = go (t x) (keep-length xs)
+    where
+      go : (b : Bool) → length (keep t xs) ≤ length xs → length (pick b (x ∷ keep t xs) (keep t xs)) ≤ suc (length xs)
+      go true h = omega arith
+      go false h = omega arith
+
   -- of the k numbers from x on: x passes
   pub up-pass : (x k : ℕ) → t x ≡ true → keep t (upFrom x (suc k)) ≡ x ∷ keep t (upFrom (x + 1) k)
   unfolding upFrom
@@ -122,3 +161,47 @@ up-join x (suc j) k =
 pub last-join : (p : ℕ) (xs ys : List ℕ) → lastOf p (xs ++ ys) ≡ lastOf (lastOf p xs) ys
 last-join p [] ys = refl
 last-join p (x ∷ xs) ys = last-join x xs ys
+
+-- tests of what passed others
+module _ (t : ℕ → Bool) where
+  -- where all pass, all stay
+  pub keep-all : (xs : List ℕ) → ((x : ℕ) → t x ≡ true) → keep t xs ≡ xs
+  unfolding keep
+  keep-all [] h = refl
+  keep-all (x ∷ xs) h = keep-pass t x xs (h x) ∙ ap (λ (l : List ℕ). x ∷ l) (keep-all xs h)
+
+  -- one test after another is both at once
+  pub keep-twice : (s : ℕ → Bool) (xs : List ℕ) → keep t (keep s xs) ≡ keep (λ x. s x && t x) xs
+  unfolding keep
+  keep-twice s [] = refl
+  keep-twice s (x ∷ xs) = go (s x) refl (keep-twice s xs)
+    where
+      go : (b : Bool) → s x ≡ b → keep t (keep s xs) ≡ keep (λ x. s x && t x) xs → keep t (keep s (x ∷ xs)) ≡ keep (λ x. s x && t x) (x ∷ xs)
+      go true e q = rw (e, q)
+      go false e q = rw e q
+
+  -- x stays where it was and passes
+  pub has-keep : (x : ℕ) (xs : List ℕ) → has x (keep t xs) ≡ has x xs && t x
+  unfolding has keep
+  has-keep x [] = refl
+  has-keep x (y ∷ ys) = go (t y) refl (ℕ-discrete x y) (has-keep x ys)
+    where
+      go : (b : Bool) → t y ≡ b → Dec (x ≡ y) → has x (keep t ys) ≡ has x ys && t x → has x (keep t (y ∷ ys)) ≡ has x (y ∷ ys) && t x
+      go true e (yes z) q = rw (e, eq-eqb x y z) (sym (ap t z ∙ e))
+      go true e (no n) q = rw (e, ne-eqb x y n) q
+      go false e (yes z) q = rw (e, q, eq-eqb x y z) (rw (ap t z ∙ e) (and-false (has x ys)))
+      go false e (no n) q = rw (e, ne-eqb x y n) q
+
+-- where x stands in a list, it stands at some place
+pub has-place : (x : ℕ) (ys : List ℕ) → has x ys ≡ true → (k : ℕ) × (k < length ys) × (getD ys k 0 ≡ x)
+has-place x ys h = go ys (in-has x ys h)
+  where
+    go : (ys : List ℕ) → In x ys → (k : ℕ) × (k < length ys) × (getD ys k 0 ≡ x)
+    go (y ∷ ys) (here e) = (0, omega arith, sym e)
+    go (y ∷ ys) (there i) = let p = go ys i in (suc (p .0), omega arith, p .2)
+
+-- what a map gives at a place within the list
+pub map-at : {A C : Type 0} (f : A → C) (xs : List A) (k : ℕ) (a : A) (c : C) → k < length xs → getD (map f xs) k c ≡ f (getD xs k a)
+map-at f [] k a c l = absurd (omega arith)
+map-at f (x ∷ xs) zero a c l = refl
+map-at f (x ∷ xs) (suc k) a c l = map-at f xs k a c (omega arith)

@@ -15,16 +15,19 @@ use Rattle.laws.proofs.Frames.{Accepted, looked, or-second, or-both}
 
 -- 11, of one name
 module _ (k name : ℕ) (rest : Verdict) where
+  -- a name below k
   pub name-below : name < k → fault11 k (name ∷ []) rest ≡ rest
   unfolding fault11 leading
   name-below l = simp (lt-ltb _ _ l)
 
+  -- and one that is not
   pub name-past : k ≤ name → fault11 k (name ∷ []) rest ≡ verdict 11 0
   unfolding fault11 leading
   name-past l = simp (le-ltb _ _ l)
 
 -- an accepted name: the index is accepted, and the name is one of its lists
 pub record Named (bs : List ℕ) (name : ℕ) : Type 0 where
+  pub looked : look bs .number ≡ 0
   pub index : Accepted bs
   pub below : name < kOf bs
   pub is : nameFault bs name ≡ accepted
@@ -35,5 +38,5 @@ unfolding nameFault
 named bs name ok = let p = or-both _ _ ok in go (p .0) (p .1) (decLt name (kOf bs))
   where
     go : look bs .number ≡ 0 → fault11 (kOf bs) (name ∷ []) accepted .number ≡ 0 → Dec (name < kOf bs) → Named bs name
-    go z e (yes l) = record { index = looked bs z; below = l; is = or-second _ _ z ∙ name-below (kOf bs) name accepted l }
+    go z e (yes l) = record { looked = z; index = looked bs z; below = l; is = or-second _ _ z ∙ name-below (kOf bs) name accepted l }
     go z e (no g) = absurd (let f = sym (ap (λ (v : Verdict). v .number) (name-past (kOf bs) name accepted (omega arith))) ∙ e in omega arith)

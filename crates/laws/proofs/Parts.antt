@@ -61,18 +61,29 @@ pub all-more : (x : ℕ) (xs : List ℕ) → x < 256 → AllBytes xs → AllByte
 all-more x xs l a zero = l
 all-more x xs l a (suc i) = a i
 
--- what stands from position p on begins with the byte there
+-- what stands from position p on
 module _ (bs : List ℕ) (p : ℕ) where
+  -- a byte stands there
   pub front : (a : ℕ) → p < length bs → a ≡ byteAt bs p → drop p bs ≡ a ∷ drop (p + 1) bs
   front a h is = rw (is, add-one p) (drop-cons bs p 0 h)
 
+  -- none does
   pub nothing : length bs ≤ p → drop p bs ≡ []
   nothing h = drop-of-length-le bs h
 
--- the length of a part
+-- a part
 module _ (bs : List ℕ) (a e : ℕ) where
+  -- how long it is
   pub length-part : e ≤ length bs → length (part bs a e) ≡ e - a
   length-part h = rw (length-take, length-drop) (omega arith)
+
+  -- one that is not empty, its first number taken off
+  pub part-cons : a < e → e ≤ length bs → part bs a e ≡ getD bs a 0 ∷ part bs (a + 1) e
+  part-cons l h = let n : e - a ≡ suc (e - (a + 1)) = omega arith in rw (n, add-one a, drop-cons bs a 0 (omega arith))
+
+  -- one that ends where it begins, or before
+  pub part-none : e ≤ a → part bs a e ≡ []
+  part-none l = let n : e - a ≡ 0 = omega arith in rw n
 
 -- a part that goes up to the end is all that stands from its start on
 pub part-end : (bs : List ℕ) (a : ℕ) → part bs a (length bs) ≡ drop a bs

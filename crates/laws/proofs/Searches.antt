@@ -2,6 +2,7 @@
 use Prim.Native.Nat.{ℕ, zero, suc, _+_, _-_, _*_, _≤_, _<_}
 use mathlib.Core.Path.{_≡_, refl, sym, ap, _∙_}
 use mathlib.Core.List.{List}
+use native.Mathlib.Nat.{le-refl}
 use native.Mathlib.Omega.{arith}
 use native.Mathlib.Decide.{decLe}
 use borrow.Author.Tests.{lt-ltb, le-ltb, le-leb, lt-leb}
@@ -48,6 +49,7 @@ module _ (s : ℕ → ℕ) (x : ℕ) where
             ]
       ]
 
+  -- so it holds of halving with no number of steps in sight
   pub halve-ind : {P : ℕ → ℕ → Sought → Type 0} → Halving P → (lo hi : ℕ) → P lo hi (halved s x lo hi)
   unfolding halved
   halve-ind H lo hi = halveF-ind H (hi - lo) lo hi (omega arith)
@@ -72,27 +74,22 @@ module _ (s : ℕ → ℕ) (x : ℕ) where
 
   -- the steps of halving
   module _ (lo hi : ℕ) where
+    -- neighbours: lo is the answer
     pub halve-one : hi - lo ≤ 1 → halved s x lo hi ≡ at lo
     unfolding halved
     halve-one h = halveF-one (hi - lo) lo hi h
 
+    -- the entry in the middle is not above x
     pub halve-up : 1 < hi - lo → s (mid lo hi) ≤ x → halved s x lo hi ≡ saw (mid lo hi) (halved s x (mid lo hi) hi)
     halve-up h b =
         sym (halve-enough lo hi (suc (hi - lo)) (omega arith)) ∙ halveF-up (hi - lo) lo hi h b
         ∙ ap (saw (mid lo hi)) (halve-enough (mid lo hi) hi (hi - lo) (omega arith))
 
+    -- it is above x
     pub halve-down : 1 < hi - lo → x < s (mid lo hi) → halved s x lo hi ≡ saw (mid lo hi) (halved s x lo (mid lo hi))
     halve-down h b =
         sym (halve-enough lo hi (suc (hi - lo)) (omega arith)) ∙ halveF-down (hi - lo) lo hi h b
         ∙ ap (saw (mid lo hi)) (halve-enough lo (mid lo hi) (hi - lo) (omega arith))
-
-  -- halving makes at most hi − lo looks
-  Few : ℕ → ℕ → Sought → Type 0
-  Few lo hi r = looksOf r ≤ hi - lo
-
-  pub halve-few : (lo hi : ℕ) → looksOf (halved s x lo hi) ≤ hi - lo
-  unfolding Few
-  halve-few = halve-ind {P = Few} (record { one = λ lo hi h. omega arith; up = λ lo hi r h b q. omega arith; down = λ lo hi r h b q. omega arith })
 
   -- Doubling from the finger p, with f steps to spare: past m, an entry above x, a good entry
   module _ (m p : ℕ) where
@@ -127,6 +124,7 @@ module _ (s : ℕ → ℕ) (x : ℕ) where
               ]
         ]
 
+    -- so it holds of doubling with no number of steps in sight
     pub gallop-ind : {P : ℕ → ℕ → Sought → Type 0} → Galloping P → (d lo : ℕ) → 1 ≤ d → P d lo (galloped s x m p d lo)
     unfolding galloped
     gallop-ind G d lo h = gallopF-ind G m d lo h (omega arith)
@@ -150,27 +148,109 @@ module _ (s : ℕ → ℕ) (x : ℕ) where
 
     -- the steps of doubling
     module _ (d lo : ℕ) (h : 1 ≤ d) where
+      -- past m: the rest is halved
       pub gallop-past : m < p + d → galloped s x m p d lo ≡ halved s x lo (m + 1)
       unfolding galloped
       gallop-past a = gallopF-past m d lo a
 
+      -- an entry above x: what lies before it is halved
       pub gallop-fail : p + d ≤ m → x < s (p + d) → galloped s x m p d lo ≡ saw (p + d) (halved s x lo (p + d))
       gallop-fail a b = sym (gallop-enough d lo h (suc m) (omega arith)) ∙ gallopF-fail m d lo a b
 
+      -- a good entry: twice as far
       pub gallop-good : p + d ≤ m → s (p + d) ≤ x → galloped s x m p d lo ≡ saw (p + d) (galloped s x m p (2 * d) (p + d))
       gallop-good a b =
           sym (gallop-enough d lo h (suc m) (omega arith)) ∙ gallopF-good m d lo a b ∙ ap (saw (p + d)) (gallop-enough (2 * d) (p + d) (omega arith) m (omega arith))
 
 -- The paper's first case: where the first position lies past m, or fails, j is the finger
 module _ (s : ℕ → ℕ) (x m p : ℕ) where
+  -- past m
   pub search-past : m < p + 1 → searched s x m p ≡ at p
   unfolding searched
   search-past a = gallop-past s x m p 1 p (omega arith) a ∙ halve-one s x p (m + 1) (omega arith)
 
+  -- above x
   pub search-fail : p + 1 ≤ m → x < s (p + 1) → searched s x m p ≡ saw (p + 1) (at p)
   unfolding searched
   search-fail a b = gallop-fail s x m p 1 p (omega arith) a b ∙ ap (saw (p + 1)) (halve-one s x p (p + 1) (omega arith))
 
+  -- or it is good, and the doubling goes on
   pub search-good : p + 1 ≤ m → s (p + 1) ≤ x → searched s x m p ≡ saw (p + 1) (galloped s x m p 2 (p + 1))
   unfolding searched
   search-good a b = gallop-good s x m p 1 p (omega arith) a b
+
+-- HOW FAR AND HOW LONG, whatever the entries are: j lies from the finger on and not past m, and halving makes few looks
+module _ (s : ℕ → ℕ) (x : ℕ) where
+  -- halving makes at most hi − lo looks
+  pub halve-few : (lo hi : ℕ) → looksOf (halved s x lo hi) ≤ hi - lo
+  halve-few =
+      halve-ind s x {P = λ lo hi r. looksOf r ≤ hi - lo}
+      (record { one = λ lo hi h. omega arith; up = λ lo hi r h b q. omega arith; down = λ lo hi r h b q. omega arith })
+
+  -- it ends at lo or above it
+  pub halve-from : (lo hi : ℕ) → lo ≤ halved s x lo hi .j
+  halve-from =
+      halve-ind s x {P = λ lo hi r. lo ≤ r .j}
+      (record { one = λ lo hi h. le-refl lo; up = λ lo hi r h b q. omega arith; down = λ lo hi r h b q. q })
+
+  -- and below hi
+  halve-below : (lo hi : ℕ) → lo < hi → halved s x lo hi .j < hi
+  halve-below =
+      halve-ind s x {P = λ lo hi r. lo < hi → r .j < hi}
+      (record { one = λ lo hi h l. l; up = λ lo hi r h b q l. q (omega arith); down = λ lo hi r h b q l. let z = q (omega arith) in omega arith })
+
+  module _ (m p : ℕ) where
+    -- doubling ends at lo or above it
+    pub gallop-from : (d lo : ℕ) → 1 ≤ d → lo ≤ p + d → lo ≤ galloped s x m p d lo .j
+    gallop-from =
+        gallop-ind s x m p {P = λ d lo r. lo ≤ p + d → lo ≤ r .j}
+        (record {
+          past = λ d lo h a l. halve-from lo (m + 1);
+          fail = λ d lo h a b l. halve-from lo (p + d);
+          good = λ d lo r h a b q l. let z = q (omega arith) in omega arith;
+        })
+
+    -- j is not below the finger
+    pub search-from : p ≤ searched s x m p .j
+    unfolding searched
+    search-from = gallop-from 1 p (omega arith) (omega arith)
+
+    gallop-below : (d lo : ℕ) → 1 ≤ d → lo < p + d → lo ≤ m → galloped s x m p d lo .j ≤ m
+    gallop-below =
+        gallop-ind s x m p {P = λ d lo r. lo < p + d → lo ≤ m → r .j ≤ m}
+        (record {
+          past = λ d lo h a l e. let z = halve-below lo (m + 1) (omega arith) in omega arith;
+          fail = λ d lo h a b l e. let z = halve-below lo (p + d) l in omega arith;
+          good = λ d lo r h a b q l e. q (omega arith) a;
+        })
+
+    -- and not past m
+    pub search-below : p ≤ m → searched s x m p .j ≤ m
+    unfolding searched
+    search-below h = gallop-below 1 p (omega arith) (omega arith) h
+
+-- WHAT IT GOES BY: the search looks at no position below 1, so entries that agree from 1 on are searched alike
+module _ (s t : ℕ → ℕ) (x : ℕ) (same : (i : ℕ) → 1 ≤ i → s i ≡ t i) where
+  halve-alike : (lo hi : ℕ) → halved s x lo hi ≡ halved t x lo hi
+  halve-alike =
+      halve-ind s x {P = λ lo hi r. r ≡ halved t x lo hi}
+      (record {
+        one = λ lo hi h. sym (halve-one t x lo hi h);
+        up = λ lo hi r h b q. ap (saw (mid lo hi)) q ∙ sym (halve-up t x lo hi h (rw (same (mid lo hi) (omega arith)) at b));
+        down = λ lo hi r h b q. ap (saw (mid lo hi)) q ∙ sym (halve-down t x lo hi h (rw (same (mid lo hi) (omega arith)) at b));
+      })
+
+  module _ (m p : ℕ) where
+    gallop-alike : (d lo : ℕ) → 1 ≤ d → galloped s x m p d lo ≡ galloped t x m p d lo
+    gallop-alike =
+        gallop-ind s x m p {P = λ d lo r. r ≡ galloped t x m p d lo}
+        (record {
+          past = λ d lo h a. halve-alike lo (m + 1) ∙ sym (gallop-past t x m p d lo h a);
+          fail = λ d lo h a b. ap (saw (p + d)) (halve-alike lo (p + d)) ∙ sym (gallop-fail t x m p d lo h a (rw (same (p + d) (omega arith)) at b));
+          good = λ d lo r h a b q. ap (saw (p + d)) q ∙ sym (gallop-good t x m p d lo h a (rw (same (p + d) (omega arith)) at b));
+        })
+
+    -- and so are whole searches
+    pub search-alike : searched s x m p ≡ searched t x m p
+    unfolding searched
+    search-alike = gallop-alike 1 p (omega arith)

@@ -1,13 +1,13 @@
 -- A number and its four bytes: its bound, where it stands behind other bytes, and that each determines the other.
-use Prim.Native.Nat.{ℕ, zero, suc, _+_, _*_, _/_, _%_, _≤_, _<_}
+use Prim.Native.Nat.{ℕ, zero, suc, _+_, _*_, _-_, _/_, _%_, _≤_, _<_}
 use mathlib.Core.Path.{_≡_, refl, sym, ap, _∙_}
 use mathlib.Core.List.{List, [], _∷_, _++_}
 use native.Mathlib.Nat.{add-zero}
 use native.Mathlib.Omega.{arith}
 use lib.Dec.{lit<}
-use lib.ListN.{length, drop}
-use lib.Seq.{getD-drop, getD-append-add}
-use Rattle.paper.specs.Bytes.{byteAt, u32At, u32Bytes}
+use lib.ListN.{length, take, drop}
+use lib.Seq.{getD-take, getD-drop, getD-append-add}
+use Rattle.paper.specs.Bytes.{byteAt, u32At, part, u32Bytes}
 use Rattle.laws.proofs.Parts.{AllBytes}
 
 -- four bytes spell a number below 2 to the power of 32
@@ -22,9 +22,17 @@ word-same xs ys i j h =
     let e₀ : byteAt xs i ≡ byteAt ys j = rw (add-zero i, add-zero j) at (h 0 (lit< tt)) in
     rw (e₀, h 1 (lit< tt), h 2 (lit< tt), h 3 (lit< tt))
 
+-- a number of which all four bytes stand at the front
+word-take : (n : ℕ) (bs : List ℕ) (i : ℕ) → i + 4 ≤ n → u32At (take n bs) i ≡ u32At bs i
+word-take n bs i l = word-same (take n bs) bs i i λ d h. getD-take n bs (i + d) 0 (omega arith)
+
 -- behind n bytes
 pub word-drop : (n : ℕ) (bs : List ℕ) (i : ℕ) → u32At (drop n bs) i ≡ u32At bs (n + i)
 word-drop n bs i = word-same (drop n bs) bs i (n + i) λ d h. getD-drop n bs (i + d) 0 ∙ ap (byteAt bs) (omega arith)
+
+-- and in a part of them
+pub word-part : (bs : List ℕ) (a e i : ℕ) → a + i + 4 ≤ e → u32At (part bs a e) i ≡ u32At bs (a + i)
+word-part bs a e i l = word-take (e - a) (drop a bs) i (omega arith) ∙ word-drop a bs i
 
 -- behind another list
 pub word-behind : (xs ys : List ℕ) (i : ℕ) → u32At (xs ++ ys) (length xs + i) ≡ u32At ys i

@@ -6,7 +6,7 @@ use mathlib.Core.List.{List, _∷_, flatten}
 use native.Mathlib.Decide.{ℕ-discrete}
 use native.Mathlib.Nat.{zero-add}
 use native.Mathlib.Omega.{arith}
-use lib.ListN.{length, getD, drop, length-append, length-take, length-drop}
+use lib.ListN.{length, getD, drop, length-append}
 use Rattle.paper.specs.Lists.{has, lastOf}
 use Rattle.paper.specs.Tail.{Tail, blockCount, firstSlot, offsetOf, readBlocks, readTail}
 use Rattle.paper.specs.Record.{cutOf, tailCount, codeLength, bitLength, bitsOf, behindBits, entriesOf, codesOf, bitAt, slotsToCut, tailIn, tailOf, recordFault}
@@ -52,14 +52,6 @@ module _ (u B : ℕ) (r : List ℕ) (pos : 1 ≤ B) (ok : recordFault u B (lengt
   -- the tail is read without a fault
   tail-sound : tailOf u B r .fault ≡ 0
   tail-sound = the-parts .1
-
-  -- the entries are 8 m bytes
-  pub skips-length : length (skipsOf B r) ≡ 8 * blocksOf B r
-  skips-length = let s = parts-sum in rw (length-take, length-drop, length-drop) (omega arith)
-
-  -- and the code bytes: L of them
-  pub codes-length : length (codeBytesOf B r) ≡ codeLength r
-  codes-length = let s = parts-sum in rw (length-drop, length-drop, length-drop) (omega arith)
 
   -- the tail, as it is read
   read : Tail

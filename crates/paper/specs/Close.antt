@@ -15,7 +15,7 @@ use Rattle.paper.specs.declared.Written.{Written}
 abbrev pub startIn : List ℕ → ℕ → ℕ → ℕ
 startIn starts D i = getD starts i D
 
--- 4; 1 of the finished length; 12; 5, where only the starts can fail; then list by list as in looking
+-- 4; 1 of the finished length; 12; 5, which can only come from the starts; then the lists in turn, by the order of looking
 unfoldable pub closeFault : List ℕ → ℕ → ℕ → ℕ → List ℕ → Verdict
 closeFault before u B D starts =
     let k = length starts in

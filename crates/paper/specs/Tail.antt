@@ -1,5 +1,5 @@
--- [The index, read from its end; Numbers of refusal] The tail: blocks of B slots, a skip entry for each. One reading gives the blocks
--- before the first faulty one, and that fault's number, 7 to 9. Looking goes by the fault, all else by the blocks.
+-- [The index, read from its end; Numbers of refusal] The tail: blocks of B slots, a skip entry for each. One reading gives the sound
+-- blocks at the front and the number of the fault that ends them, 7 to 9. Looking goes by the fault, all else by the blocks.
 use Prim.Native.Nat.{ℕ, zero, suc, _+_, _-_, _*_, min}
 use mathlib.Core.List.{List, [], _∷_}
 use lib.ListN.{take, drop}
@@ -8,7 +8,7 @@ use Rattle.paper.specs.Lists.{pick, lastOf}
 use Rattle.paper.specs.Bytes.{u32At, ceilDiv}
 use Rattle.paper.specs.Block.{Block, readCodes}
 
--- the blocks before the first faulty one, and its fault (0: there is none)
+-- the sound blocks at the front, and the fault behind them (0: there is none)
 pub record Tail : Type 0 where
   pub fault : ℕ
   pub blocks : List (List ℕ)

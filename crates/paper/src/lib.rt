@@ -7,7 +7,7 @@ pub struct Verdict {
     pub place: u32,
 }
 
-// The answer to a question: `count` slots stand at the front of the lent slice.
+// The answer to a question: `count` slots stand at the front of the slice; `looks` and `codes` are what the searches cost, summed over the names.
 pub struct Answer {
     pub number: u32,
     pub place: u32,

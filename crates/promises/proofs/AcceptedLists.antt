@@ -1,7 +1,7 @@
 -- The lists of an accepted index: their slots rise in 1..u, there are as many as counted, bits tell up to the cut, the entries that a search
 -- goes by rise and are the first slots of their blocks, and a list holds what its record was written to hold.
 use Prim.Native.Nat.{ℕ, suc, _≤_, _<_, _+_, _-_, _*_, min}
-use mathlib.Core.Path.{_≡_, sym, _∙_, ap}
+use mathlib.Core.Path.{_≡_, sym, _∙_}
 use mathlib.Core.Bool.{true}
 use mathlib.Core.Logic.{_↔_}
 use mathlib.Core.List.{List, []}
@@ -11,7 +11,6 @@ use Rattle.paper.specs.Record.{cutOf, tailCount, bitsOf, bitAt, tailOf, recordF
 use Rattle.paper.specs.Held.{countOf, entryOf}
 use Rattle.paper.specs.Index.{uOf, blockLength, kOf, recordOf, held, startOf}
 use Rattle.paper.specs.Look.{look}
-use Rattle.paper.specs.declared.Verdict.{Verdict}
 use Rattle.laws.proofs.Lists.{In, has-in, in-has}
 use Rattle.laws.proofs.Parts.{AllBytes, all-take, all-drop, length-part}
 use Rattle.laws.proofs.Frames.{looked, start-apart, start-within}
@@ -19,10 +18,10 @@ use Rattle.meaning.proofs.Rising.{Ascends}
 use Rattle.meaning.proofs.Chains.{blockAt}
 use Rattle.meaning.proofs.Sound.{blocksOf, skipsOf, contents-rise, contents-count, has-bit, blocks-number, block-size, entry-rise, entry-within, entry-first}
 use Rattle.promises.proofs.RecordRows.{Holds}
-use Rattle.promises.proofs.IndexRows.{WellFormed}
+use Rattle.promises.proofs.IndexRows.{WellFormed, Counts}
 use Rattle.promises.proofs.RecordSlots.{record-held}
-use Rattle.promises.proofs.IndexReads.{u-read, B-read, k-read}
-use Rattle.promises.proofs.IndexLooks.{well-accepted}
+use Rattle.promises.proofs.IndexReads.{well-u, well-B, well-k}
+use Rattle.promises.proofs.IndexLooks.{well-looked}
 use Rattle.promises.proofs.IndexRecords.{record-is}
 
 module _ (bs : List ℕ) (ok : look bs .number ≡ 0) (i : ℕ) (l : i < kOf bs) where
@@ -70,10 +69,11 @@ module _ (bs : List ℕ) (ok : look bs .number ≡ 0) (i : ℕ) (l : i < kOf bs)
   pub list-bound : (a : ℕ) → a ≤ blocksOf B r → entry a ≤ u
   list-bound = entry-within u B r some-B free
 
-  -- there are as many blocks as entries, each of B slots but the last, which has those that are left
+  -- there are as many blocks as entries
   pub list-blocks : length (tailOf u B r .blocks) ≡ blocksOf B r
   list-blocks = blocks-number u B r some-B free
 
+  -- each has B slots but the last, which has those that are left
   pub list-sizes : (b : ℕ) → b < blocksOf B r → length (blockAt (tailOf u B r .blocks) b) ≡ min B (tailCount r - b * B)
   list-sizes = block-size u B r some-B free
 
@@ -97,11 +97,21 @@ module _ (bs : List ℕ) (ok : look bs .number ≡ 0) (i : ℕ) (l : i < kOf bs)
       let h = record-held u B r all-r some-B (looked bs ok .frame .most-u) list-long free x in
       (λ m. h .0 (has-in x (held bs i) m), λ m. in-has x (held bs i) (h .1 m))
 
--- and where the index is known by how it was written, by the record that was written there
-pub well-holds : (bs : List ℕ) → AllBytes bs → (w : WellFormed bs) (i : ℕ) → i < w .trailer .k → (x : ℕ)
-    → In x (held bs i) ↔ Holds (w .trailer .u) (w .trailer .B) (getD (w .records) i []) x
-well-holds bs all w i l x =
-    let e = w .packed .filled .ranged .edited .tagged .ends in
-    let ok = ap (λ (v : Verdict). v .number) (well-accepted bs all w) in
-    let below : i < kOf bs = rw (k-read bs (w .trailer) e) l in
-    rw (← u-read bs (w .trailer) e, ← B-read bs (w .trailer) e, ← record-is bs w i l) (list-holds bs ok i below all x)
+-- where the index is known by how it was written
+module _ (bs : List ℕ) (all : AllBytes bs) (w : WellFormed bs) (i : ℕ) (l : i < w .trailer .k) where
+  below : i < kOf bs
+  below = rw (well-k bs w) l
+
+  -- a list holds what the record that was written there holds
+  pub well-holds : (x : ℕ) → In x (held bs i) ↔ Holds (w .trailer .u) (w .trailer .B) (getD (w .records) i []) x
+  well-holds x = rw (← well-u bs w, ← well-B bs w, ← record-is bs w i l) (list-holds bs (well-looked bs all w) i below all x)
+
+  -- and so it counts
+  pub well-counts : Counts (w .trailer .u) (Holds (w .trailer .u) (w .trailer .B) (getD (w .records) i [])) (countOf (recordOf bs i))
+  well-counts =
+      record {
+        slots = held bs i;
+        rising = rw (← well-u bs w) (list-rise bs (well-looked bs all w) i below);
+        exactly = well-holds;
+        long = list-count bs (well-looked bs all w) i below;
+      }

@@ -14,8 +14,9 @@ use lib.Dec.{ltb}
 use borrow.Author.Tests.{lt-ltb, le-ltb}
 use Rattle.paper.specs.Refusal.{tooShort}
 use Rattle.paper.specs.Index.{fromEnd, startOf, recordIn}
+use Rattle.laws.proofs.Lists.{Each}
 use Rattle.laws.proofs.Frames.{start-end}
-use Rattle.promises.proofs.IndexRows.{Each, words, Trailer, numbersOf, EndsIn, Filled, startsFrom}
+use Rattle.promises.proofs.IndexRows.{words, Trailer, numbersOf, EndsIn, Filled, startsFrom}
 use Rattle.promises.proofs.IndexReads.{word-at, k-read, D-read}
 
 -- a function gives these numbers from i on

@@ -1,28 +1,22 @@
 -- Looking at an index, rows 1 to 5: what the tests say where a row applies, and that they lead on where it does not.
 use Prim.Native.Nat.{ℕ, _+_, _*_, _<_}
 use mathlib.Core.Path.{_≡_, refl, sym, ap, _∙_}
-use mathlib.Core.Bool.{Bool, true, false}
 use mathlib.Core.Logic._⊎_.{inl, inr}
 use mathlib.Core.List.{List, [], _∷_, _++_, flatten}
 use native.Mathlib.Omega.{arith}
 use lib.ListN.{length, length-append}
 use lib.Dec.{ltb, eqb}
 use borrow.Author.Tests.{lt-ltb, eq-eqb, ne-eqb}
-use Rattle.paper.specs.Lists.{pick}
 use Rattle.paper.specs.Refusal.{verdict, accepted, within, fault1, fault2, fault3, fault4, fault4k, startsFault, fault5}
 use Rattle.paper.specs.Index.{editionOf, uOf, blockLength, kOf, dOf, startOf}
 use Rattle.paper.specs.Look.{frameFault}
 use Rattle.paper.specs.declared.Verdict.{Verdict}
+use Rattle.laws.proofs.Lists.{same-either}
 use Rattle.laws.proofs.Equals.{same-refl, same-false}
 use Rattle.laws.proofs.Links.{low, between}
 use Rattle.promises.proofs.IndexRows.{Inside, Outside, Trailer, EndsIn, Sized, Tagged, Edited, Ranged, Filled, startsFrom, Packed}
 use Rattle.promises.proofs.IndexReads.{edition-read, u-read, B-read, k-read, D-read, last-read}
 use Rattle.promises.proofs.IndexDirectory.{starts-read, tight-found, Lie, gives-lie, lie-start, none-short, starts-count}
-
--- where both ways lead to the same
-same-either : (t : Bool) (v : Verdict) → pick t v v ≡ v
-same-either true v = refl
-same-either false v = refl
 
 -- a test of a range
 module _ (lo hi x : ℕ) (v : Verdict) where

@@ -12,9 +12,9 @@ use Rattle.paper.specs.Record.{recordFault}
 use Rattle.paper.specs.Refusal.{verdict, accepted, orElse}
 use Rattle.paper.specs.Look.{listFault, listsFault}
 use Rattle.paper.specs.declared.Verdict.{Verdict}
+use Rattle.laws.proofs.Lists.{Each}
 use Rattle.laws.proofs.Parts.{AllBytes, all-front, all-behind}
 use Rattle.promises.proofs.RecordRows.{RecordRefused, RecordSound}
-use Rattle.promises.proofs.IndexRows.{Each}
 use Rattle.promises.proofs.RecordNumbers.{record-number, record-sound}
 use Rattle.promises.proofs.IndexDirectory.{Lie, lie-start, record-read}
 

@@ -9,9 +9,10 @@ use Rattle.paper.specs.Refusal.{verdict, accepted}
 use Rattle.paper.specs.Index.{uOf, blockLength, kOf, startOf}
 use Rattle.paper.specs.Look.{frameFault, listFault, listsFault, look}
 use Rattle.paper.specs.declared.Verdict.{Verdict}
+use Rattle.laws.proofs.Lists.{Each}
 use Rattle.laws.proofs.Parts.{AllBytes, all-front}
 use Rattle.laws.proofs.Frames.{or-given, or-second}
-use Rattle.promises.proofs.IndexRows.{Each, words, Trailer, numbersOf, startsFrom, Packed, Refused, WellFormed}
+use Rattle.promises.proofs.IndexRows.{words, Trailer, numbersOf, startsFrom, Packed, Refused, WellFormed}
 use Rattle.promises.proofs.IndexRows.Refused.{short, long, tag, edition, u-range, B-range, k-range, size, first, tight, list}
 use Rattle.promises.proofs.IndexReads.{u-read, B-read, k-read}
 use Rattle.promises.proofs.IndexDirectory.{starts-count}
@@ -54,6 +55,10 @@ module _ (bs : List ℕ) where
         let g = w .packed .filled .ranged in
         to-records (w .trailer) (w .records) (w .packed)
         ∙ lists-sound (w .trailer .u) (w .trailer .B) (g .B .0) (g .u .1) (w .records) (whole-records (w .trailer) (w .records) (w .packed) all) (w .sound)
+
+    -- which is to say that looking finds no fault
+    pub well-looked : WellFormed bs → look bs .number ≡ 0
+    well-looked w = ap (λ (v : Verdict). v .number) (well-accepted w)
 
     -- no row has the number 0
     pub not-zero : (r p : ℕ) → Refused bs r p → ¬ (r ≡ 0)

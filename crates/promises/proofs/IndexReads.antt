@@ -7,9 +7,10 @@ use lib.ListN.{length, getD, take, drop, length-append, length-drop, take-append
 use lib.Seq.{drop-drop, drop-at}
 use Rattle.paper.specs.Bytes.{u32At, u32Bytes}
 use Rattle.paper.specs.Index.{fromEnd, editionOf, uOf, blockLength, kOf, dOf}
+use Rattle.laws.proofs.Lists.{Each}
 use Rattle.laws.proofs.Parts.{AllBytes, all-drop}
 use Rattle.laws.proofs.Words.{word-bound, word-read, word-behind, word-is, length-word}
-use Rattle.promises.proofs.IndexRows.{Each, Word, words, Trailer, numbersOf, EndsIn}
+use Rattle.promises.proofs.IndexRows.{Word, words, Trailer, numbersOf, EndsIn, WellFormed}
 
 -- numbers, one at a time
 words-none : words [] ≡ []
@@ -144,3 +145,20 @@ module _ (bs : List ℕ) (t : Trailer) (e : EndsIn bs t) where
       let all : bs ≡ t .before ++ five ++ t .last = e .is ∙ sym (append-assoc (t .before) five (t .last)) in
       let long : length (t .before ++ five) ≡ length bs - 4 = rw length-append (omega arith) in
       ap (drop (length bs - 4)) all ∙ drop-at (t .before ++ five) (t .last) (length bs - 4) long
+
+-- the numbers of a well-formed index
+module _ (bs : List ℕ) (w : WellFormed bs) where
+  ends : EndsIn bs (w .trailer)
+  ends = w .packed .filled .ranged .edited .tagged .ends
+
+  -- u
+  pub well-u : uOf bs ≡ w .trailer .u
+  well-u = u-read bs (w .trailer) ends
+
+  -- B
+  pub well-B : blockLength bs ≡ w .trailer .B
+  well-B = B-read bs (w .trailer) ends
+
+  -- k
+  pub well-k : kOf bs ≡ w .trailer .k
+  well-k = k-read bs (w .trailer) ends

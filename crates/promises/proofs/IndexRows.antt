@@ -7,7 +7,7 @@ use mathlib.Core.Logic.{_⊎_, _↔_}
 use mathlib.Core.List.{List, [], _∷_, _++_, map, flatten}
 use lib.ListN.{length}
 use Rattle.paper.specs.Bytes.{u32Bytes}
-use Rattle.laws.proofs.Lists.{In}
+use Rattle.laws.proofs.Lists.{In, Each}
 use Rattle.meaning.proofs.Rising.{Ascends}
 use Rattle.promises.proofs.RecordRows.{RecordRefused, RecordSound}
 
@@ -18,11 +18,6 @@ Inside lo hi x = (lo ≤ x) × (x ≤ hi)
 -- x lies below lo or above hi
 abbrev pub Outside : ℕ → ℕ → ℕ → Type 0
 Outside lo hi x = (x < lo) ⊎ (hi < x)
-
--- each of a list
-abbrev pub Each : {A : Type 0} → (A → Type 0) → List A → Type 0
-Each p [] = Unit {0}
-Each p (x ∷ xs) = p x × Each p xs
 
 -- a number that four bytes hold
 abbrev pub Word : ℕ → Type 0

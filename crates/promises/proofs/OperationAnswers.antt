@@ -8,20 +8,17 @@ use native.Mathlib.Decide.{ℕ-discrete}
 use native.Mathlib.Omega.{arith}
 use lib.ListN.{length, getD, take, drop}
 use borrow.Author.Tests.{eq-eqb, ne-eqb}
-use Rattle.paper.specs.Index.{uOf, blockLength, startOf, recordOf, held}
+use Rattle.paper.specs.Index.{startOf, recordOf, held}
 use Rattle.paper.specs.OneList.{nameFault, testFault, testAnswer, countAnswer, lent, partAnswer}
 use Rattle.paper.specs.declared.Verdict.{Verdict}
 use Rattle.laws.proofs.Lists.{In, has-exactly}
 use Rattle.laws.proofs.Parts.{AllBytes, length-part}
 use Rattle.laws.proofs.Frames.{start-apart, start-within}
-use Rattle.laws.proofs.Names.{Named, named}
-use Rattle.meaning.proofs.Rising.{Ascends}
-use Rattle.meaning.proofs.Sound.{contents-rise, contents-count}
+use Rattle.laws.proofs.Names.{named}
 use Rattle.promises.proofs.RecordRows.{Holds}
 use Rattle.promises.proofs.IndexRows.{NameAccepted, TestAccepted, Counts}
-use Rattle.promises.proofs.IndexReads.{u-read}
 use Rattle.promises.proofs.IndexRecords.{record-is, start-is}
-use Rattle.promises.proofs.AcceptedLists.{well-holds}
+use Rattle.promises.proofs.AcceptedLists.{list-count, well-holds, well-counts}
 use Rattle.promises.proofs.OperationNumbers.{name-passes, test-passes}
 
 module _ (bs : List ℕ) (name : ℕ) where
@@ -49,32 +46,16 @@ module _ (bs : List ℕ) (name : ℕ) where
 
   -- Counting: accepted, it says how many slots are held
   pub count-says : countAnswer bs name .number ≡ 0 → countAnswer bs name .count ≡ length (held bs name)
-  unfolding held countAnswer
-  count-says ok =
-      let w = named bs name ok in
-      rw (eq-eqb (nameFault bs name .number) 0 ok)
-      (sym (contents-count (uOf bs) (blockLength bs) (recordOf bs name) (w .index .frame .some-B) (w .index .lists name (w .below))))
-
-  count-number : countAnswer bs name .number ≡ nameFault bs name .number
   unfolding countAnswer
-  count-number = refl
-
-  rises : Named bs name → Ascends (uOf bs) 0 (held bs name)
-  unfolding held
-  rises w = contents-rise (uOf bs) (blockLength bs) (recordOf bs name) (w .index .frame .some-B) (w .index .lists name (w .below))
+  count-says ok = let w = named bs name ok in rw (eq-eqb (nameFault bs name .number) 0 ok) (sym (list-count bs (w .looked) name (w .below)))
 
   -- and so, how many the record that was written there holds
   pub count-tells : AllBytes bs → (a : NameAccepted bs name)
       → Counts (a .well .trailer .u) (Holds (a .well .trailer .u) (a .well .trailer .B) (getD (a .well .records) name [])) (countAnswer bs name .count)
+  unfolding countAnswer
   count-tells all a =
       let ok = ap (λ (v : Verdict). v .number) (name-passes bs all name a) in
-      let w = named bs name ok in
-      record {
-        slots = held bs name;
-        rising = rw (← u-read bs (a .well .trailer) (a .well .packed .filled .ranged .edited .tagged .ends)) (rises w);
-        exactly = well-holds bs all (a .well) name (a .below);
-        long = sym (count-says (count-number ∙ ok));
-      }
+      rw (eq-eqb (nameFault bs name .number) 0 ok) (well-counts bs all (a .well) name (a .below))
 
   -- refused, it says none
   pub count-refusal : ¬ (countAnswer bs name .number ≡ 0) → countAnswer bs name .count ≡ 0
@@ -137,11 +118,11 @@ module _ (bs : List ℕ) (name : ℕ) where
   unfolding partAnswer
   part-refusal n = rw (ne-eqb (nameFault bs name .number) 0 n) (refl, refl)
 
-  -- accepted, it lies behind the records before it, and is as long as the record that was written
   part-start : nameFault bs name .number ≡ 0 → partAnswer bs name .start ≡ startOf bs name
   unfolding partAnswer
   part-start ok = rw (eq-eqb (nameFault bs name .number) 0 ok)
 
+  -- accepted, it lies behind the records before it, and is as long as the record that was written
   pub part-is : AllBytes bs → (a : NameAccepted bs name)
       → (partAnswer bs name .start ≡ length (flatten (take name (a .well .records)))) × (partAnswer bs name .length ≡ length (getD (a .well .records) name []))
   part-is all a =

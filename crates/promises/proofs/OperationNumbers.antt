@@ -13,30 +13,23 @@ use Rattle.paper.specs.declared.Verdict.{Verdict}
 use Rattle.laws.proofs.Parts.{AllBytes}
 use Rattle.laws.proofs.Frames.{or-given, or-second}
 use Rattle.laws.proofs.Names.{name-below, name-past}
-use Rattle.promises.proofs.IndexRows.{WellFormed, NameRefused, NameAccepted, TestRefused, TestAccepted, ByTheTable}
+use Rattle.promises.proofs.IndexRows.{NameRefused, NameAccepted, TestRefused, TestAccepted, ByTheTable}
 use Rattle.promises.proofs.IndexRows.NameRefused.{index, unknown}
 use Rattle.promises.proofs.IndexRows.TestRefused.{named, outside}
-use Rattle.promises.proofs.IndexReads.{k-read, u-read}
+use Rattle.promises.proofs.IndexReads.{well-k, well-u}
 use Rattle.promises.proofs.IndexFrame.{within-passes, within-fails}
-use Rattle.promises.proofs.IndexLooks.{well-accepted, not-zero, refused-given}
+use Rattle.promises.proofs.IndexLooks.{well-looked, not-zero, refused-given}
 use Rattle.promises.proofs.IndexJudged.{inside-or}
 use Rattle.promises.proofs.IndexNumbers.{by-the-table, Either, look-either}
 use Rattle.promises.proofs.IndexNumbers.Either.{one-refuses, all-accept}
 
 module _ (bs : List ℕ) (all : AllBytes bs) where
-  -- what a well-formed index says is what is read
-  well-k : (w : WellFormed bs) → kOf bs ≡ w .trailer .k
-  well-k w = k-read bs (w .trailer) (w .packed .filled .ranged .edited .tagged .ends)
-
-  well-u : (w : WellFormed bs) → uOf bs ≡ w .trailer .u
-  well-u w = u-read bs (w .trailer) (w .packed .filled .ranged .edited .tagged .ends)
-
   module _ (name : ℕ) where
     -- a name refused by some row has its number and place
     name-gives : (r p : ℕ) → NameRefused bs name r p → nameFault bs name ≡ verdict r p
     unfolding nameFault
     name-gives r p (index t) = or-given (look bs) _ r p (refused-given bs all r p t) (not-zero bs all r p t)
-    name-gives r p (unknown w l) = or-second (look bs) _ (ap (λ (v : Verdict). v .number) (well-accepted bs all w)) ∙ name-past (kOf bs) name accepted (rw (well-k w) l)
+    name-gives r p (unknown w l) = or-second (look bs) _ (well-looked bs all w) ∙ name-past (kOf bs) name accepted (rw (well-k bs w) l)
 
     -- which is not 0
     name-nonzero : (r p : ℕ) → NameRefused bs name r p → ¬ (r ≡ 0)
@@ -46,7 +39,7 @@ module _ (bs : List ℕ) (all : AllBytes bs) where
     -- a good name is accepted
     pub name-passes : NameAccepted bs name → nameFault bs name ≡ accepted
     unfolding nameFault
-    name-passes a = or-second (look bs) _ (ap (λ (v : Verdict). v .number) (well-accepted bs all (a .well))) ∙ name-below (kOf bs) name accepted (rw (well-k (a .well)) (a .below))
+    name-passes a = or-second (look bs) _ (well-looked bs all (a .well)) ∙ name-below (kOf bs) name accepted (rw (well-k bs (a .well)) (a .below))
 
     -- one or the other
     name-either : Either (NameRefused bs name) (NameAccepted bs name)
@@ -69,7 +62,7 @@ module _ (bs : List ℕ) (all : AllBytes bs) where
       unfolding testFault fault16
       test-gives r p (named t) = or-given (nameFault bs name) _ r p (name-gives r p t) (name-nonzero r p t)
       test-gives r p (outside a o) =
-          or-second (nameFault bs name) _ (ap (λ (v : Verdict). v .number) (name-passes a)) ∙ within-fails 1 (uOf bs) slot (verdict 16 0) accepted (rw (well-u (a .well)) o)
+          or-second (nameFault bs name) _ (ap (λ (v : Verdict). v .number) (name-passes a)) ∙ within-fails 1 (uOf bs) slot (verdict 16 0) accepted (rw (well-u bs (a .well)) o)
 
       test-nonzero : (r p : ℕ) → TestRefused bs name slot r p → ¬ (r ≡ 0)
       test-nonzero r p (named t) = name-nonzero r p t
@@ -80,7 +73,7 @@ module _ (bs : List ℕ) (all : AllBytes bs) where
       unfolding testFault fault16
       test-passes a =
           or-second (nameFault bs name) _ (ap (λ (v : Verdict). v .number) (name-passes (a .named)))
-          ∙ within-passes 1 (uOf bs) slot (verdict 16 0) accepted (rw (well-u (a .named .well)) (a .inside))
+          ∙ within-passes 1 (uOf bs) slot (verdict 16 0) accepted (rw (well-u bs (a .named .well)) (a .inside))
 
       test-either : Either (TestRefused bs name slot) (TestAccepted bs name slot)
       test-either =

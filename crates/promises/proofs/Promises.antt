@@ -1,4 +1,4 @@
--- WHAT IS PROMISED of looking at an index, testing a slot, counting a list and lending its record. Each statement is a named type with its
+-- WHAT IS PROMISED of looking at an index, testing a slot, counting a list and lending its record. Every statement has a name and its
 -- meaning in plain words; the line behind it is its proof, which cites other files. The rows of the table that the statements speak of are
 -- in RecordRows and IndexRows. Beside these three files a reader needs the definitions that they name: of crate paper, the bytes of numbers and
 -- codes (Bytes, Code), what writing makes (Write), and what is answered (Held, Index, Look, OneList). `AllBytes bs`: every number of bs is
@@ -155,7 +155,7 @@ list bs i = listed (uOf bs) (blockLength bs) (recordOf bs i)
 abbrev pub entry : List ℕ → ℕ → ℕ → ℕ
 entry bs i j = entryOf (list bs i .cut) (list bs i .entries) j
 
--- A slot up to the cut is held exactly when its bit is set.
+-- Up to the cut a list holds the slots whose bits are set, and no other.
 abbrev pub ListsBits : Type 0
 ListsBits = OfLists λ bs i. (x : ℕ) → 1 ≤ x → x ≤ list bs i .cut → In x (held bs i) ↔ (bitAt (list bs i .bits) x ≡ true)
 
@@ -208,7 +208,7 @@ TailHeld = OfRecords λ u B r. Accepted u B r → (x : ℕ) → ((has x (content
 pub tail-held : TailHeld
 tail-held = slots.tail-held
 
--- A slot up to the cut is held exactly when its bit is one of those that the bytes of bits are written from.
+-- Up to the cut it holds the slots whose bits the bytes of bits are written from.
 abbrev pub BitHeld : Type 0
 BitHeld =
     OfRecords λ u B r.

@@ -290,7 +290,7 @@ module _ (u B : ℕ) (r : List ℕ) (all : AllBytes r) (pos : 1 ≤ B) (few : u 
     λ t. let h = in-tail-has x t in let l = rises-over x h in (has-tail u B r pos ok x l ∙ h, l),
   )
 
-  -- a slot up to the cut is held exactly when its bit is one of those that the bits are written from
+  -- up to the cut it holds the slots whose bits the bytes of bits are written from
   pub bit-held : (c n L : ℕ) (bits entries codes : List ℕ) → Parts u B r c n L bits entries codes → (t : ℕ → Bool) → bits ≡ bitBytes t 1 (length bits)
       → (x : ℕ) → 1 ≤ x → x ≤ c → has x (contents u B r) ≡ t x
   bit-held c n L bits entries codes p t e x i l =

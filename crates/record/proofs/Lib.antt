@@ -1,3 +1,3 @@
 pub mod Turns
-pub mod Parts
-pub mod Members
+pub mod Spans
+pub mod Opening

@@ -1,19 +1,16 @@
-// One record: its check, its count, and whether it holds a slot. A record comes as the part of the index that it is. Names are the paper's:
+// One record: its check, its count, and where its parts and its blocks lie. A record comes as the part of the index that it is. Names are the paper's:
 // u, the cut, n tail slots in m blocks of `block` slots, their entries and their codes.
 ghost use mathlib.Core.Bool.{_&&_};
 ghost use mathlib.Core.Path.{_≡_};
 ghost use Prim.Native.Nat.{_+_, _*_, _-_, _≤_, _<_, min};
 ghost use lib.Dec.{ltb, eqb};
 ghost use lib.ListN.{length, drop};
-ghost use Rattle.paper.specs.Lists.{has};
 ghost use Rattle.paper.specs.Bytes.{ceilDiv};
 ghost use Rattle.paper.specs.Tail.{endOf, readBlocks, readTail};
 ghost use Rattle.paper.specs.Record.{cutOf, tailCount, recordFault};
-ghost use Rattle.paper.specs.Held.{contents, countOf};
-ghost use Rattle.record.specs.Members.{Reached, Ready, foundIn};
+ghost use Rattle.paper.specs.Held.{countOf};
+ghost use Rattle.record.specs.Opened.{Opened, LiesAt};
 use codes::check_codes;
-use codes::seek_in;
-use words::bit;
 use words::ones_to;
 use words::u32_at;
 
@@ -141,62 +138,71 @@ pub fn count_record(rec: &[u8]) -> u32
     ones_to(&rec[12..to], cut) + n
 }
 
-// j, the number of blocks that begin at x or below it. Their first slots rise, so the first of them that is above x ends the count. The entries
-// are gone through one by one: a test reports no looks, and the whole index was looked at before it.
-fn blocks_to(entries: &[u8], m: usize, x: u32) -> usize
-    requires { ⌜ 8 * m ≤ length (now entries) ⌝ }
-    ensures { λ r. ⌜ Reached (now (entries .entry)) m x r ⌝ }
-{
-    let mut j: usize = 0;
-    while j < m {
-        if x < u32_at(entries, 8 * j) {
-            return j;
-        }
-        j = j + 1;
-    }
-    j
+// Where the parts of a record lie, and the numbers that go with them: the bits from 12 up to `from`, m entries up to `to`, then the codes of
+// n slots above the cut.
+pub struct Parts {
+    pub u: u32,
+    pub block: u32,
+    pub cut: u32,
+    pub n: u32,
+    pub m: usize,
+    pub from: usize,
+    pub to: usize,
 }
 
-// Whether block `nth`, counted from 0, holds x: it is read from its first slot on until a slot that is not below x.
-fn in_block(
-    entries: &[u8],
-    codes: &[u8],
-    block: u32,
-    m: usize,
-    n: u32,
-    u: u32,
-    nth: usize,
-    x: u32,
-) -> bool
-    requires { ⌜ Ready u block m n nth (now entries) (now codes) ⌝ }
-    ensures { λ r. ⌜ r ≡ foundIn u block m n nth x (now (entries .entry)) (now (codes .entry)) ⌝ }
-{
-    let at = 8 * nth;
-    let first = u32_at(entries, at);
-    let start = u32_at(entries, at + 4) as usize;
-    let end = block_end(entries, codes.len(), m - nth, at);
-    let left = (n as usize - nth * block as usize) as u32;
-    let size = smaller(block, left);
-    let got = seek_in(&codes[start..end], size - 1, first, u, x);
-    got.slot == x
-}
-
-// Whether a record without a fault holds the slot x: up to the cut its bit tells, above it the one block that it can stand in.
-pub fn holds(rec: &[u8], u: u32, block: u32, x: u32) -> bool
-    requires { ⌜ (recordFault u block (length (now rec)) (now rec) ≡ 0) × (0 < block) × (0 < x) ⌝ }
-    ensures { λ r. ⌜ r ≡ has x (contents u block (now (rec .entry))) ⌝ }
+// Opens a record without a fault. The one division by the block length is done here, once for each list.
+pub fn parts_of(rec: &[u8], u: u32, block: u32) -> Parts
+    requires { ⌜ (recordFault u block (length (now rec)) (now rec) ≡ 0) × (0 < block) × (u ≤ 1048576) ⌝ }
+    ensures { λ r. ⌜ Opened (r .u) (r .block) (now (rec .entry)) r × (r .u ≡ u) × (r .block ≡ block) ⌝ }
 {
     let cut = u32_at(rec, 0);
-    let from = 12 + ceil(cut, 8);
-    if x <= cut {
-        return bit(&rec[12..from], x);
-    }
     let n = u32_at(rec, 4);
     let m = ceil(n, block);
+    let from = 12 + ceil(cut, 8);
     let to = from + 8 * m;
-    let j = blocks_to(&rec[from..to], m, x);
-    if j == 0 {
-        return false;
+    Parts {
+        u,
+        block,
+        cut,
+        n,
+        m,
+        from,
+        to,
     }
-    in_block(&rec[from..to], &rec[to..], block, m, n, u, j - 1, x)
+}
+
+// Where a block lies in its record: its first slot, then `count` codes from `start` to `end`.
+pub struct BlockAt {
+    pub first: u32,
+    pub start: usize,
+    pub end: usize,
+    pub count: u32,
+}
+
+// How many slots block `nth` has: a whole block, or those that are left of n.
+fn slots_in(n: u32, block: u32, nth: usize) -> u32
+    requires { ⌜ nth * block < n ⌝ }
+    ensures { λ r. ⌜ r ≡ min block (n - nth * block) ⌝ }
+{
+    let left = (n as usize - nth * block as usize) as u32;
+    smaller(block, left)
+}
+
+// Block `nth` of an opened record, counted from 0.
+pub fn block_at(rec: &[u8], p: Parts, nth: usize) -> BlockAt
+    requires { ⌜ Opened (p .u) (p .block) (now rec) p × (nth < p .m) ⌝ }
+    ensures { λ r. ⌜ LiesAt (p .u) (p .block) (now (rec .entry)) nth r ⌝ }
+{
+    let to = p.to;
+    let at = p.from + 8 * nth;
+    let first = u32_at(rec, at);
+    let start = to + u32_at(rec, at + 4) as usize;
+    let end = to + block_end(rec, rec.len() - to, p.m - nth, at);
+    let size = slots_in(p.n, p.block, nth);
+    BlockAt {
+        first,
+        start,
+        end,
+        count: size - 1,
+    }
 }

@@ -1,5 +1,6 @@
--- What the public functions cite: one law for each way out of each of them.
-use Prim.Native.Nat.{ℕ, _+_, _*_, _-_, _≤_, _<_}
+-- What the public functions cite: one law for each way out of each of them. What they need of an accepted index and of its records are the laws
+-- of `names`; here is how they know that the index is accepted.
+use Prim.Native.Nat.{ℕ, _+_, _-_, _≤_, _<_}
 use mathlib.Core.Path.{_≡_, refl, sym, ap, _∙_}
 use mathlib.Core.Bool.{Bool, false}
 use mathlib.Core.List.{List}
@@ -18,75 +19,81 @@ use Rattle.paper.specs.Look.{frameFault, inLists, look}
 use Rattle.paper.specs.OneList.{nameFault, testFault, testAnswer, countAnswer, lent, partAnswer}
 use Rattle.paper.specs.declared.Verdict.{Verdict}
 use Rattle.paper.specs.declared.Part.{Part}
-use Rattle.laws.proofs.Frames.{within-passed, Framed, Accepted, looked, or-first, or-second, start-apart, start-within}
+use Rattle.laws.proofs.Frames.{within-passed, or-first, or-second, start-apart, start-within}
 use Rattle.laws.proofs.Names.{Named, named, name-below, name-past}
 use Rattle.laws.proofs.Links.{sixteen-small, sixteen-large, sixteen}
-use Rattle.record.proofs.Members.{bytes-inside, count-small}
+use Rattle.names.proofs.Records as records
+
+-- what was answered accepts, and so does what it is an answer of
+pub passes : (v w : Verdict) → v ≡ w → v .number ≡ 0 → w .number ≡ 0
+passes v w is z = sym (ap (λ (w : Verdict). w .number) is) ∙ z
 
 -- looking: f is the number that 1 to 5 give
 module _ (bs : List ℕ) (f : ℕ) (is : verdict f 0 ≡ frameFault bs (length bs)) where
+  -- none refuses
   pub frame-passes : f ≡ 0 → frameFault bs (length bs) .number ≡ 0
-  frame-passes z = sym (ap (λ (w : Verdict). w .number) is) ∙ z
+  frame-passes = passes (verdict f 0) _ is
 
+  -- one of them does
   pub frame-refuses : ¬ (f ≡ 0) → verdict f 0 ≡ look bs
   unfolding look
   frame-refuses n = rw (← is) (sym (or-first (verdict f 0) _ n))
 
+  -- where none does, the lists tell
   pub lists-tell : f ≡ 0 → (r : Verdict) → r ≡ inLists bs → r ≡ look bs
   unfolding look
   lists-tell z r e = e ∙ rw (← is) (sym (or-second (verdict f 0) _ z))
 
--- a name
+-- a name: v is what looking said
 module _ (bs : List ℕ) (name : ℕ) (v : Verdict) (is : v ≡ look bs) where
+  -- the index is refused
   pub look-refuses : ¬ (v .number ≡ 0) → v ≡ nameFault bs name
   unfolding nameFault
   look-refuses n = rw (← is) (sym (or-first v _ n))
 
-  module _ (z : v .number ≡ 0) where
-    accepts : Accepted bs
-    accepts = looked bs (sym (ap (λ (w : Verdict). w .number) is) ∙ z)
+  module _ (z : v .number ≡ 0) (k : ℕ) (isK : k ≡ kOf bs) where
+    -- the name is
+    pub name-refused : k ≤ name → verdict 11 0 ≡ nameFault bs name
+    unfolding nameFault
+    name-refused l = sym (name-past (kOf bs) name accepted (rw (← isK) l)) ∙ rw (← is) (sym (or-second v _ z))
 
-    pub k-there : 12 ≤ length bs
-    k-there = let l = accepts .frame .least in omega arith
+    -- neither is
+    pub name-good : name < k → verdict 0 0 ≡ nameFault bs name
+    unfolding nameFault
+    name-good l = sym (name-below (kOf bs) name accepted (rw (← isK) l)) ∙ rw (← is) (sym (or-second v _ z))
 
-    module _ (k : ℕ) (isK : k ≡ kOf bs) where
-      pub name-refused : k ≤ name → verdict 11 0 ≡ nameFault bs name
-      unfolding nameFault
-      name-refused l = sym (name-past (kOf bs) name accepted (rw (← isK) l)) ∙ rw (← is) (sym (or-second v _ z))
-
-      pub name-good : name < k → verdict 0 0 ≡ nameFault bs name
-      unfolding nameFault
-      name-good l = sym (name-below (kOf bs) name accepted (rw (← isK) l)) ∙ rw (← is) (sym (or-second v _ z))
-
--- (le-of-lt: no proof needs it today; with it, a test by `<` in place of `<=` fails at what it breaks)
+-- all of these (le-of-lt: no proof needs it today; with it, a test by `<` in place of `<=` fails at what it breaks)
 pub ruleset names = (look-refuses, name-refused, name-good, le-of-lt)
 
--- where the record lies
+-- where the record lies: v is what was said of the name
 module _ (bs : List ℕ) (name : ℕ) (v : Verdict) (is : v ≡ nameFault bs name) where
+  -- the name is refused
   pub part-refused : ¬ (v .number ≡ 0) → record { number = v .number; place = v .place; start = 0; length = 0 } ≡ partAnswer bs name
   unfolding partAnswer
   part-refused n = rw (← is) (simp (ne-eqb _ _ n))
 
   module _ (z : v .number ≡ 0) where
     the-name : Named bs name
-    the-name = named bs name (sym (ap (λ (w : Verdict). w .number) is) ∙ z)
+    the-name = named bs name (passes v _ is z)
 
-    pub named-room : 24 + 4 * kOf bs ≤ length bs
-    named-room = let s = the-name .index .frame .sum in omega arith
+    -- it is not: the index is accepted
+    pub name-looked : look bs .number ≡ 0
+    name-looked = the-name .looked
 
-    module _ (a e : ℕ) (isA : a ≡ startOf bs name) (isE : e ≡ startOf bs (name + 1)) where
-      pub part-forward : a ≤ e
-      part-forward = rw (isA, isE) (let h = start-apart bs (the-name .index .frame) name (the-name .below) in omega arith)
+    -- the name is one of its lists
+    pub name-known : name < kOf bs
+    name-known = the-name .below
 
-      pub part-told : record { number = 0; place = 0; start = a; length = e - a } ≡ partAnswer bs name
-      unfolding partAnswer
-      part-told = rw (the-name .is, isA, isE)
+    -- and its record lies from a to e
+    pub part-told : (a e : ℕ) → a ≡ startOf bs name → e ≡ startOf bs (name + 1) → record { number = 0; place = 0; start = a; length = e - a } ≡ partAnswer bs name
+    unfolding partAnswer
+    part-told a e isA isE = rw (the-name .is, isA, isE)
 
 -- what a part says, where it is not refused
-pub record Found (bs : List ℕ) (name : ℕ) (p : Part) : Type 0 where
-  pub name-is : Named bs name
-  pub inside : p .start + p .length ≤ length bs
-  pub is : part bs (p .start) (p .start + p .length) ≡ recordOf bs name
+record Found (bs : List ℕ) (name : ℕ) (p : Part) : Type 0 where
+  name-is : Named bs name
+  inside : p .start + p .length ≤ length bs
+  is : part bs (p .start) (p .start + p .length) ≡ recordOf bs name
 
 module _ (bs : List ℕ) (name : ℕ) where
   module _ (w : Named bs name) where
@@ -122,7 +129,7 @@ module _ (bs : List ℕ) (name : ℕ) where
     unfolding partAnswer
     nowhere n = rw is (simp (ne-eqb _ _ n), simp (ne-eqb _ _ n))
 
-    -- lending
+    -- lending: what lies there lies in the index
     pub lend-inside : p .start + p .length ≤ length bs
     lend-inside =
         elim (ℕ-discrete (nameFault bs name .number) 0) [
@@ -130,6 +137,7 @@ module _ (bs : List ℕ) (name : ℕ) where
           | no n ↦ let e = nowhere n in let f = e .0 in let g = e .1 in omega arith
         ]
 
+    -- and is what is to be lent
     pub lent-is : (r : List ℕ) → r ≡ part bs (p .start) (p .start + p .length) → r ≡ lent bs name
     unfolding lent
     lent-is r isR =
@@ -139,44 +147,46 @@ module _ (bs : List ℕ) (name : ℕ) where
           | no n ↦ let e = nowhere n in rw (e .0, e .1) (sym (simp (ne-eqb _ _ n)))
         ]
 
-    -- a refused part is refused by counting and testing too
     module _ (n : ¬ (p .number ≡ 0)) where
       n′ : ¬ (nameFault bs name .number ≡ 0)
       n′ z = n (number-is ∙ z)
 
+      -- a refused part is refused by counting
       pub count-refused : record { number = p .number; place = p .place; count = 0 } ≡ countAnswer bs name
       unfolding countAnswer
       count-refused = rw (number-is, place-is) (simp (ne-eqb _ _ n′))
 
+      -- and by testing
       pub test-refused : (x : ℕ) → record { number = p .number; place = p .place; yes = false } ≡ testAnswer bs name x
       unfolding testAnswer testFault
       test-refused x = rw (number-is, place-is) (simp (ne-eqb _ _ n′))
 
     module _ (z : p .number ≡ 0) where
-      sound : recordFault (uOf bs) (blockLength bs) (length (recordOf bs name)) (recordOf bs name) ≡ 0
-      sound = found z .name-is .index .lists name (found z .name-is .below)
+      -- where a part is told, the index is accepted
+      pub part-looked : look bs .number ≡ 0
+      part-looked = found z .name-is .looked
 
-      frame : Framed bs
-      frame = found z .name-is .index .frame
-
-      pub u-there : 20 ≤ length bs
-      u-there = let l = frame .least in omega arith
-
-      pub B-there : 16 ≤ length bs
-      B-there = let l = frame .least in omega arith
-
-      -- the record that was taken there
+      -- and r, which lies there, is the record of the name
       module _ (r : List ℕ) (isR : r ≡ part bs (p .start) (p .start + p .length)) where
+        known : name < kOf bs
+        known = found z .name-is .below
+
         record-is : r ≡ recordOf bs name
         record-is = isR ∙ found z .is
 
-        -- counting
+        -- its bits lie in it
         pub bits-there : 12 + ceilDiv (cutOf r) 8 ≤ length r
-        bits-there = rw record-is (bytes-inside (uOf bs) (blockLength bs) _ sound (frame .some-B))
+        bits-there = records.bits-there bs part-looked name known r record-is
 
+        -- its slots are few
         pub sum-small : cutOf r + tailCount r ≤ 1048576
-        sum-small = rw record-is (count-small (uOf bs) (blockLength bs) _ sound (frame .some-B) (frame .most-u))
+        sum-small = records.sum-small bs part-looked name known r record-is
 
+        -- it has no fault
+        pub record-sound : (u B : ℕ) → u ≡ uOf bs → B ≡ blockLength bs → recordFault u B (length r) r ≡ 0
+        record-sound = records.record-sound bs part-looked name known r record-is
+
+        -- counting
         pub count-told : (n : ℕ) → n ≡ countOf r → record { number = 0; place = 0; count = n } ≡ countAnswer bs name
         unfolding countAnswer
         count-told n e = rw (e, record-is, found z .name-is .is)
@@ -187,34 +197,32 @@ module _ (bs : List ℕ) (name : ℕ) where
         unfolding testFault
         fault-is = isF ∙ rw (found z .name-is .is, isU)
 
+        -- the slot is refused
         pub slot-refused : ¬ (f ≡ 0) → record { number = f; place = 0; yes = false } ≡ testAnswer bs name x
         unfolding testAnswer
         slot-refused n = rw (← fault-is) (simp (ne-eqb _ _ n))
 
         module _ (ok : f ≡ 0) where
+          -- it is not, and so not 0
           pub slot-some : 0 < x
           unfolding fault16
-          slot-some = within-passed 16 (λ e. omega arith) accepted 1 u x (sym (ap (λ (v : Verdict). v .number) isF) ∙ ok) .0
+          slot-some = within-passed 16 (λ e. omega arith) accepted 1 u x (passes (verdict f 0) _ isF ok) .0
 
-          module _ (B : ℕ) (isB : B ≡ blockLength bs) where
-            pub block-some : 0 < B
-            block-some = rw isB (frame .some-B)
+          -- and the record tells
+          pub test-told : (B : ℕ) → B ≡ blockLength bs → (r : List ℕ) → r ≡ part bs (p .start) (p .start + p .length) → (t : Bool) → t ≡ has x (contents u B r)
+              → record { number = 0; place = 0; yes = t } ≡ testAnswer bs name x
+          unfolding testAnswer held
+          test-told B isB r isR t e = rw (e, isU, isB, record-is r isR, ← fault-is, ok)
 
-            module _ (r : List ℕ) (isR : r ≡ part bs (p .start) (p .start + p .length)) where
-              pub record-sound : recordFault u B (length r) r ≡ 0
-              record-sound = rw (isU, isB, record-is r isR) sound
-
-              pub test-told : (t : Bool) → t ≡ has x (contents u B r) → record { number = 0; place = 0; yes = t } ≡ testAnswer bs name x
-              unfolding testAnswer held
-              test-told t e = rw (e, isU, isB, record-is r isR, ← fault-is, ok)
-
--- 16
+-- 16: slot 0
 pub slot-small : (u x : ℕ) → x < 1 → verdict 16 0 ≡ fault16 u x accepted
 slot-small u x = sixteen-small accepted u x u refl
 
 module _ (u x : ℕ) (g : 1 ≤ x) where
+  -- a slot above u
   pub slot-large : u < x → verdict 16 0 ≡ fault16 u x accepted
   slot-large = sixteen-large accepted u x u refl g
 
+  -- a slot in 1..u
   pub slot-inside : x ≤ u → verdict 0 0 ≡ fault16 u x accepted
   slot-inside l = sixteen accepted u x u refl g l _ refl

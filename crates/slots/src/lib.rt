@@ -5,17 +5,24 @@ ghost use lib.ListN.{length};
 ghost use Rattle.paper.specs.Bytes as bytes;
 ghost use Rattle.paper.specs.Refusal.{verdict, accepted, fault16};
 ghost use Rattle.paper.specs.Look.{MeetsLook};
+ghost use Rattle.paper.specs.Ask.{MeetsAsk};
 ghost use Rattle.paper.specs.OneList.{nameFault, MeetsTest, MeetsCount, MeetsLend, MeetsPart};
+ghost use Rattle.slots.specs.Unroomed.{unroomed, refusal};
 use frame::check_frame;
 use frame::check_lists;
 use frame::from_end;
 use frame::start_of;
+use paper::Answer;
 use paper::Counted;
 use paper::Part;
 use paper::Tested;
 use paper::Verdict;
+use question::answer_by_skips;
+use question::answer_plainly;
+use question::check_names;
+use question::rank;
 use record::count_record;
-use record::holds;
+use search::holds;
 
 // Looks at a whole index: 1 to 5, then its lists one after the other. The first fault found is the answer.
 pub fn look(index: &[u8]) -> Verdict
@@ -151,4 +158,48 @@ pub fn test(index: &[u8], name: u32, slot: u32) -> Tested
         place: 0,
         yes,
     }
+}
+
+// All refusals of a question but 12: the index, 14, 10, 11.
+fn check_question(index: &[u8], way: u32, names: &[u32]) -> Verdict
+    ensures { λ r. ⌜ r ≡ unroomed (now (index .entry)) way (now (names .entry)) ⌝ }
+{
+    let seen = look(index);
+    if seen.number != 0 {
+        return seen;
+    }
+    check_names(index, way, names)
+}
+
+// The answer to a question that is refused: nothing is counted.
+fn refused(number: u32, place: u32) -> Answer
+    ensures { λ r. ⌜ r ≡ refusal number place ⌝ }
+{
+    Answer {
+        number,
+        place,
+        count: 0,
+        looks: 0,
+        codes: 0,
+    }
+}
+
+// Answers a question: what all lists named hold, at the front of `slots`, and 0 at every place behind. Nothing is written
+// before every refusal is ruled out.
+pub fn ask(index: &[u8], way: u32, names: &[u32], slots: &mut [u32]) -> Answer
+    ensures { λ r. ⌜ MeetsAsk (now (index .entry)) way (now (names .entry)) (now (slots .entry)) r (now (slots .exit)) ⌝ }
+{
+    let fault = check_question(index, way, names);
+    if fault.number != 0 {
+        return refused(fault.number, fault.place);
+    }
+    let mut order = [0u32; 16];
+    let need = rank(index, names, &mut order);
+    if slots.len() < need as usize {
+        return refused(12, need);
+    }
+    if way == 1 {
+        return answer_by_skips(index, names, &order, slots);
+    }
+    answer_plainly(index, names, &order, slots)
 }

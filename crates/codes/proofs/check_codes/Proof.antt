@@ -7,9 +7,6 @@ use Rattle.codes.specs.InBlock.{checked}
 use Rattle.codes.proofs.Turns.{turns}
 use Rattle.codes.proofs.check_codes.Statement.{statement}
 use Rattle.codes.proofs.check_codes.Tie as tie
-use Rattle.codes.proofs.check_codes.Reads as reads
-use Rattle.codes.proofs.check_codes.Lts as lts
-use Rattle.codes.proofs.read_code.Reads as read-code-reads
 
 abbrev Inv-loop : tie.InvT-loop
 Inv-loop s count first u at₀ left₀ last₀ at left last =

@@ -2,9 +2,6 @@ use Rattle.laws.proofs.Codes.{ways}
 use borrow.Author.Needs.{needs}
 use Rattle.codes.proofs.read_code.Statement.{statement}
 use Rattle.codes.proofs.read_code.Tie as tie
-use Rattle.codes.proofs.read_code.Reads as reads
-use Rattle.codes.proofs.read_code.Lts as lts
-use Rattle.words.proofs.byte.Reads as byte-reads
 
 returns : tie.Need-returns
 returns c = (search ways, search needs)

@@ -7,9 +7,6 @@ use Rattle.codes.specs.InBlock.{stopped}
 use Rattle.codes.proofs.Turns.{Head, seeks}
 use Rattle.codes.proofs.seek_in.Statement.{statement}
 use Rattle.codes.proofs.seek_in.Tie as tie
-use Rattle.codes.proofs.seek_in.Reads as reads
-use Rattle.codes.proofs.seek_in.Lts as lts
-use Rattle.codes.proofs.read_code.Reads as read-code-reads
 
 abbrev Inv-loop : tie.InvT-loop
 Inv-loop s count first u x at₀ codes₀ slot₀ at codes slot =

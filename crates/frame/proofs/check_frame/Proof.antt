@@ -3,10 +3,6 @@ use Rattle.frame.proofs.Steps.{frame}
 use borrow.Author.Needs.{needs}
 use Rattle.frame.proofs.check_frame.Statement.{statement}
 use Rattle.frame.proofs.check_frame.Tie as tie
-use Rattle.frame.proofs.check_frame.Reads as reads
-use Rattle.frame.proofs.check_frame.Lts as lts
-use Rattle.frame.proofs.check_numbers.Reads as check-numbers-reads
-use Rattle.frame.proofs.tagged.Reads as tagged-reads
 
 returns : tie.Need-returns
 returns c = search (needs, frame-links, frame)

@@ -1,14 +1,9 @@
 use borrow.Author.Needs.{needs}
 use Prim.Native.Nat.{_-_}
 use Rattle.paper.specs.Look.{inLists}
-use Rattle.frame.proofs.Steps.{Head, room, u-there, B-there, k-there, block-some, lists-begin, lists-done, part-start, part-end-in, record-long, lists-fault, lists-turn}
+use Rattle.frame.proofs.Steps.{Head, directory-there, u-there, B-there, k-there, block-some, lists-begin, lists-done, part-start, part-end-in, record-long, lists-fault, lists-turn}
 use Rattle.frame.proofs.check_lists.Statement.{statement}
 use Rattle.frame.proofs.check_lists.Tie as tie
-use Rattle.frame.proofs.check_lists.Reads as reads
-use Rattle.frame.proofs.check_lists.Lts as lts
-use Rattle.frame.proofs.from_end.Reads as from-end-reads
-use Rattle.frame.proofs.start_of.Reads as start-of-reads
-use Rattle.record.proofs.check_record.Reads as check-record-reads
 
 abbrev Inv-loop : tie.InvT-loop
 Inv-loop index u block k from₀ i₀ from i =
@@ -36,7 +31,7 @@ add-start-of : tie.Need-add-start-of Inv-loop μ-loop
 add-start-of c = search needs
 
 start-of-requires : tie.Need-start-of-requires Inv-loop μ-loop
-start-of-requires c κs = search room
+start-of-requires c κs = search directory-there
 
 sub-check-record : tie.Need-sub-check-record Inv-loop μ-loop
 sub-check-record c = search part-start

@@ -2,10 +2,6 @@ use Rattle.frame.proofs.Steps.{numbers}
 use borrow.Author.Needs.{needs}
 use Rattle.frame.proofs.check_numbers.Statement.{statement}
 use Rattle.frame.proofs.check_numbers.Tie as tie
-use Rattle.frame.proofs.check_numbers.Reads as reads
-use Rattle.frame.proofs.check_numbers.Lts as lts
-use Rattle.frame.proofs.check_starts.Reads as check-starts-reads
-use Rattle.frame.proofs.from_end.Reads as from-end-reads
 
 from-end-requires : tie.Need-from-end-requires
 from-end-requires c κs = search needs

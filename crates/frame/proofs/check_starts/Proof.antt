@@ -2,10 +2,6 @@ use Rattle.laws.proofs.Links.{start-links}
 use borrow.Author.Needs.{needs}
 use Rattle.frame.proofs.check_starts.Statement.{statement}
 use Rattle.frame.proofs.check_starts.Tie as tie
-use Rattle.frame.proofs.check_starts.Reads as reads
-use Rattle.frame.proofs.check_starts.Lts as lts
-use Rattle.frame.proofs.start_of.Reads as start-of-reads
-use Rattle.frame.proofs.too_short.Reads as too-short-reads
 
 start-of-requires : tie.Need-start-of-requires
 start-of-requires c κs = search needs

@@ -2,9 +2,6 @@ use Rattle.frame.proofs.Steps.{start-in, start-past}
 use borrow.Author.Needs.{needs}
 use Rattle.frame.proofs.start_of.Statement.{statement}
 use Rattle.frame.proofs.start_of.Tie as tie
-use Rattle.frame.proofs.start_of.Reads as reads
-use Rattle.frame.proofs.start_of.Lts as lts
-use Rattle.frame.proofs.from_end.Reads as from-end-reads
 
 from-end-requires : tie.Need-from-end-requires
 from-end-requires c κs = search needs

@@ -2,9 +2,6 @@ use Rattle.frame.proofs.Steps.{tag-is}
 use borrow.Author.Needs.{needs}
 use Rattle.frame.proofs.tagged.Statement.{statement}
 use Rattle.frame.proofs.tagged.Tie as tie
-use Rattle.frame.proofs.tagged.Reads as reads
-use Rattle.frame.proofs.tagged.Lts as lts
-use Rattle.check.proofs.same.Reads as same-reads
 
 sub-at : tie.Need-sub-at
 sub-at c = search needs

@@ -6,9 +6,6 @@ use Rattle.paper.specs.Index.{startOf}
 use Rattle.frame.proofs.Steps.{shorts}
 use Rattle.frame.proofs.too_short.Statement.{statement}
 use Rattle.frame.proofs.too_short.Tie as tie
-use Rattle.frame.proofs.too_short.Reads as reads
-use Rattle.frame.proofs.too_short.Lts as lts
-use Rattle.frame.proofs.start_of.Reads as start-of-reads
 
 abbrev Inv-loop : tie.InvT-loop
 Inv-loop index k from₀ i₀ from i =

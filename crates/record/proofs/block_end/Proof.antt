@@ -2,9 +2,6 @@ use Rattle.record.proofs.Turns.{end-last, end-inner}
 use borrow.Author.Needs.{needs}
 use Rattle.record.proofs.block_end.Statement.{statement}
 use Rattle.record.proofs.block_end.Tie as tie
-use Rattle.record.proofs.block_end.Reads as reads
-use Rattle.record.proofs.block_end.Lts as lts
-use Rattle.words.proofs.u32_at.Reads as u32-at-reads
 
 returns : tie.Need-returns
 returns c = search end-last

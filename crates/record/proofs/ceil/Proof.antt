@@ -4,8 +4,6 @@ use Rattle.laws.proofs.Rounding.{ceil-few}
 use borrow.Author.Needs.{needs}
 use Rattle.record.proofs.ceil.Statement.{statement}
 use Rattle.record.proofs.ceil.Tie as tie
-use Rattle.record.proofs.ceil.Reads as reads
-use Rattle.record.proofs.ceil.Lts as lts
 
 sub-result : tie.Need-sub-result
 sub-result c = search needs

@@ -3,12 +3,6 @@ use Rattle.paper.specs.Tail.{readBlocks}
 use Rattle.record.proofs.Turns.{Head, turns, turn, weaker}
 use Rattle.record.proofs.check_blocks.Statement.{statement}
 use Rattle.record.proofs.check_blocks.Tie as tie
-use Rattle.record.proofs.check_blocks.Reads as reads
-use Rattle.record.proofs.check_blocks.Lts as lts
-use Rattle.codes.proofs.check_codes.Reads as check-codes-reads
-use Rattle.record.proofs.block_end.Reads as block-end-reads
-use Rattle.record.proofs.smaller.Reads as smaller-reads
-use Rattle.words.proofs.u32_at.Reads as u32-at-reads
 
 abbrev Inv-loop : tie.InvT-loop
 Inv-loop entries codes block m n cut u len blocks₀ left₀ at₀ start₀ prev₀ blocks left at start prev =

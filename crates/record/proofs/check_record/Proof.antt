@@ -1,13 +1,7 @@
-use Rattle.record.proofs.Parts.{heads}
+use Rattle.record.proofs.Spans.{heads}
 use borrow.Author.Needs.{needs}
 use Rattle.record.proofs.check_record.Statement.{statement}
 use Rattle.record.proofs.check_record.Tie as tie
-use Rattle.record.proofs.check_record.Reads as reads
-use Rattle.record.proofs.check_record.Lts as lts
-use Rattle.record.proofs.ceil.Reads as ceil-reads
-use Rattle.record.proofs.check_tail.Reads as check-tail-reads
-use Rattle.record.proofs.stray.Reads as stray-reads
-use Rattle.words.proofs.u32_at.Reads as u32-at-reads
 
 u32-at-requires : tie.Need-u32-at-requires
 u32-at-requires c κs = search needs

@@ -1,11 +1,7 @@
-use Rattle.record.proofs.Parts.{tails}
+use Rattle.record.proofs.Spans.{tails}
 use borrow.Author.Needs.{needs}
 use Rattle.record.proofs.check_tail.Statement.{statement}
 use Rattle.record.proofs.check_tail.Tie as tie
-use Rattle.record.proofs.check_tail.Reads as reads
-use Rattle.record.proofs.check_tail.Lts as lts
-use Rattle.record.proofs.check_blocks.Reads as check-blocks-reads
-use Rattle.words.proofs.u32_at.Reads as u32-at-reads
 
 returns : tie.Need-returns
 returns c = search tails

@@ -1,12 +1,7 @@
-use Rattle.record.proofs.Members.{bits-enough, bits-inside, counted}
+use Rattle.record.proofs.Opening.{bits-enough, bits-inside, counted}
 use borrow.Author.Needs.{needs}
 use Rattle.record.proofs.count_record.Statement.{statement}
 use Rattle.record.proofs.count_record.Tie as tie
-use Rattle.record.proofs.count_record.Reads as reads
-use Rattle.record.proofs.count_record.Lts as lts
-use Rattle.record.proofs.ceil.Reads as ceil-reads
-use Rattle.words.proofs.ones_to.Reads as ones-to-reads
-use Rattle.words.proofs.u32_at.Reads as u32-at-reads
 
 u32-at-requires : tie.Need-u32-at-requires
 u32-at-requires c κs = search needs

@@ -1,8 +1,6 @@
-use Rattle.record.proofs.Parts.{first-passes, first-fails}
+use Rattle.record.proofs.Spans.{first-passes, first-fails}
 use Rattle.record.proofs.stray.Statement.{statement}
 use Rattle.record.proofs.stray.Tie as tie
-use Rattle.record.proofs.stray.Reads as reads
-use Rattle.record.proofs.stray.Lts as lts
 
 returns : tie.Need-returns
 returns c = search first-passes

@@ -1,11 +1,9 @@
-use Rattle.slots.proofs.Answers.{k-there, names}
+use Rattle.laws.proofs.Frames.{frame-looked}
+use Rattle.frame.proofs.Steps.{k-there}
+use Rattle.slots.proofs.Answers.{passes, names}
 use borrow.Author.Needs.{needs}
 use Rattle.slots.proofs.check_name.Statement.{statement}
 use Rattle.slots.proofs.check_name.Tie as tie
-use Rattle.slots.proofs.check_name.Reads as reads
-use Rattle.slots.proofs.check_name.Lts as lts
-use Rattle.frame.proofs.from_end.Reads as from-end-reads
-use Rattle.slots.proofs.look.Reads as look-reads
 
 look-requires : tie.Need-look-requires
 look-requires c κs = search needs
@@ -14,7 +12,7 @@ returns : tie.Need-returns
 returns c = search names
 
 from-end-requires : tie.Need-from-end-requires
-from-end-requires c κs = (search needs, search k-there)
+from-end-requires c κs = (search needs, search (k-there, frame-looked, passes))
 
 returns-2 : tie.Need-returns-2
 returns-2 c = search names

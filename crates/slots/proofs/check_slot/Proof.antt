@@ -1,8 +1,6 @@
 use Rattle.slots.proofs.Answers.{slot-small, slot-large, slot-inside}
 use Rattle.slots.proofs.check_slot.Statement.{statement}
 use Rattle.slots.proofs.check_slot.Tie as tie
-use Rattle.slots.proofs.check_slot.Reads as reads
-use Rattle.slots.proofs.check_slot.Lts as lts
 
 returns : tie.Need-returns
 returns c = search slot-small

@@ -2,11 +2,6 @@ use Rattle.slots.proofs.Answers.{lend-inside, count-refused, bits-there
 use borrow.Author.Needs.{needs}
 use Rattle.slots.proofs.count.Statement.{statement}
 use Rattle.slots.proofs.count.Tie as tie
-use Rattle.slots.proofs.count.Reads as reads
-use Rattle.slots.proofs.count.Lts as lts
-use Rattle.record.proofs.count_record.Reads as count-record-reads
-use Rattle.slots.proofs.part.Reads as part-reads
-use Rattle.slots.proofs.record_at.Reads as record-at-reads
 
 part-requires : tie.Need-part-requires
 part-requires c κs = search needs

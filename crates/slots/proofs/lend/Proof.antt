@@ -2,10 +2,6 @@ use Rattle.slots.proofs.Answers.{lend-inside, lent-is}
 use borrow.Author.Needs.{needs}
 use Rattle.slots.proofs.lend.Statement.{statement}
 use Rattle.slots.proofs.lend.Tie as tie
-use Rattle.slots.proofs.lend.Reads as reads
-use Rattle.slots.proofs.lend.Lts as lts
-use Rattle.slots.proofs.part.Reads as part-reads
-use Rattle.slots.proofs.record_at.Reads as record-at-reads
 
 part-requires : tie.Need-part-requires
 part-requires c κs = search needs

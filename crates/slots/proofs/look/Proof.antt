@@ -2,10 +2,6 @@ use Rattle.slots.proofs.Answers.{frame-passes, frame-refuses, lists-tel
 use borrow.Author.Needs.{needs}
 use Rattle.slots.proofs.look.Statement.{statement}
 use Rattle.slots.proofs.look.Tie as tie
-use Rattle.slots.proofs.look.Reads as reads
-use Rattle.slots.proofs.look.Lts as lts
-use Rattle.frame.proofs.check_frame.Reads as check-frame-reads
-use Rattle.frame.proofs.check_lists.Reads as check-lists-reads
 
 check-frame-requires : tie.Need-check-frame-requires
 check-frame-requires c κs = search needs

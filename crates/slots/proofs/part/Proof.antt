@@ -1,11 +1,10 @@
-use Rattle.slots.proofs.Answers.{part-refused, named-room, part-forward, part-told}
+use Rattle.laws.proofs.Frames.{frame-looked}
+use Rattle.frame.proofs.Steps.{directory-there}
+use Rattle.names.proofs.Records.{record-forward}
+use Rattle.slots.proofs.Answers.{part-refused, name-looked, name-known, part-told}
 use borrow.Author.Needs.{needs}
 use Rattle.slots.proofs.part.Statement.{statement}
 use Rattle.slots.proofs.part.Tie as tie
-use Rattle.slots.proofs.part.Reads as reads
-use Rattle.slots.proofs.part.Lts as lts
-use Rattle.frame.proofs.start_of.Reads as start-of-reads
-use Rattle.slots.proofs.check_name.Reads as check-name-reads
 
 check-name-requires : tie.Need-check-name-requires
 check-name-requires c κs = search needs
@@ -14,19 +13,19 @@ returns : tie.Need-returns
 returns c = search part-refused
 
 start-of-requires : tie.Need-start-of-requires
-start-of-requires c κs = search named-room
+start-of-requires c κs = search (directory-there, frame-looked, name-looked)
 
 add-start-of : tie.Need-add-start-of
 add-start-of c = search needs
 
 start-of-requires-2 : tie.Need-start-of-requires-2
-start-of-requires-2 c κs = search named-room
+start-of-requires-2 c κs = search (directory-there, frame-looked, name-looked)
 
 cast-t9 : tie.Need-cast-t9
 cast-t9 c = search needs
 
 sub-t7 : tie.Need-sub-t7
-sub-t7 c = search (part-forward, needs)
+sub-t7 c = search (record-forward, name-looked, name-known, needs)
 
 cast-t10 : tie.Need-cast-t10
 cast-t10 c = search needs

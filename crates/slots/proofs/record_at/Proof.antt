@@ -1,8 +1,6 @@
 use borrow.Author.Needs.{needs}
 use Rattle.slots.proofs.record_at.Statement.{statement}
 use Rattle.slots.proofs.record_at.Tie as tie
-use Rattle.slots.proofs.record_at.Reads as reads
-use Rattle.slots.proofs.record_at.Lts as lts
 
 cast-from : tie.Need-cast-from
 cast-from c = search needs

@@ -3,8 +3,6 @@ use Rattle.paper.specs.Record.{bitAt}
 use borrow.Author.Needs.{needs}
 use Rattle.words.proofs.bit.Statement.{statement}
 use Rattle.words.proofs.bit.Tie as tie
-use Rattle.words.proofs.bit.Reads as reads
-use Rattle.words.proofs.bit.Lts as lts
 
 sub-before : tie.Need-sub-before
 sub-before c = search needs

@@ -2,8 +2,6 @@ use native.Mathlib.Omega.{arith}
 use borrow.Author.Needs.{needs}
 use Rattle.words.proofs.byte.Statement.{statement}
 use Rattle.words.proofs.byte.Tie as tie
-use Rattle.words.proofs.byte.Reads as reads
-use Rattle.words.proofs.byte.Lts as lts
 
 shared-slice-read-result : tie.Need-shared-slice-read-result
 shared-slice-read-result c = search needs

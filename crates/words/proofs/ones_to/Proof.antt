@@ -6,9 +6,6 @@ use Rattle.paper.specs.Record.{slotsToCut}
 use Rattle.words.proofs.Ones.{steps}
 use Rattle.words.proofs.ones_to.Statement.{statement}
 use Rattle.words.proofs.ones_to.Tie as tie
-use Rattle.words.proofs.ones_to.Reads as reads
-use Rattle.words.proofs.ones_to.Lts as lts
-use Rattle.words.proofs.top_ones.Reads as top-ones-reads
 
 abbrev Inv-loop : tie.InvT-loop
 Inv-loop bits cut whole ones₀ i₀ ones i = (ones ≡ length (slotsToCut (8 * i) bits)) × (ones ≤ 8 * i) × (i ≤ whole)

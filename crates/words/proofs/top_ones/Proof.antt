@@ -2,8 +2,6 @@ use Rattle.words.proofs.Ones.{counted, few}
 use borrow.Author.Needs.{needs}
 use Rattle.words.proofs.top_ones.Statement.{statement}
 use Rattle.words.proofs.top_ones.Tie as tie
-use Rattle.words.proofs.top_ones.Reads as reads
-use Rattle.words.proofs.top_ones.Lts as lts
 
 sub-result : tie.Need-sub-result
 sub-result c = search needs

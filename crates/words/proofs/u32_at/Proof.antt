@@ -3,9 +3,6 @@ use Rattle.paper.specs.Bytes.{u32At}
 use borrow.Author.Needs.{needs}
 use Rattle.words.proofs.u32_at.Statement.{statement}
 use Rattle.words.proofs.u32_at.Tie as tie
-use Rattle.words.proofs.u32_at.Reads as reads
-use Rattle.words.proofs.u32_at.Lts as lts
-use Rattle.words.proofs.byte.Reads as byte-reads
 
 byte-requires : tie.Need-byte-requires
 byte-requires c κs = search needs

@@ -1,0 +1,3 @@
+pub mod Names
+pub mod Placing
+pub mod Ordering
