@@ -1,4 +1,4 @@
--- The promises: Promises states them, RecordRows and IndexRows say the table's rows, and the other files prove.
+-- The promises: Promises, Questions and Searching state them, RecordRows, IndexRows and AskRows say the table's rows, and the other files prove.
 pub mod Promises
 pub mod RecordRows
 pub mod IndexRows
@@ -22,3 +22,21 @@ pub mod AcceptedLists
 pub mod OperationNumbers
 pub mod OperationAnswers
 pub mod UselessPrograms
+pub mod Questions
+pub mod AskRows
+pub mod QuestionNumbers
+pub mod QuestionSlots
+pub mod QuestionAlike
+pub mod QuestionUseless
+pub mod QuestionExamples
+pub mod Searching
+pub mod SearchDoubling
+pub mod SearchLooks
+pub mod SearchFinds
+pub mod BinaryDigits
+pub mod SearchCost
+pub mod WalkCost
+pub mod SeekCodes
+pub mod SkipCost
+pub mod AnswerCost
+pub mod SkipOrder

@@ -1,0 +1,79 @@
+-- What a search costs in looks, by the way that its finger goes.
+use Prim.Native.Nat.{ℕ, zero, suc, _+_, _-_, _*_, _^_, _≤_, _<_}
+use mathlib.Core.Path.{_≡_, refl}
+use native.Mathlib.Decide.{decLe}
+use native.Mathlib.Omega.{arith}
+use Rattle.paper.specs.Search.{Sought, looksOf, mid, halved, galloped, searched}
+use Rattle.laws.proofs.Searches.{halve-ind, gallop-ind, search-past, search-fail, search-good, halve-from, gallop-from}
+use Rattle.promises.proofs.BinaryDigits.{digits, digits-over, digits-few}
+
+module _ (s : ℕ → ℕ) (x : ℕ) where
+  -- halving a gap of at most 2 to the power of e costs at most e looks
+  abbrev Halves : ℕ → ℕ → Sought → Type 0
+  Halves lo hi r = (e : ℕ) → hi - lo ≤ 2 ^ e → looksOf r ≤ e
+
+  -- one look, and a half that is not wider than the upper one
+  half : (w v looks : ℕ) → 1 < w → 2 * v ≤ w + 1 → ((e : ℕ) → v ≤ 2 ^ e → looks ≤ e) → (e : ℕ) → w ≤ 2 ^ e → suc looks ≤ e
+  half w v looks h l q zero g = absurd (omega arith)
+  half w v looks h l q (suc e) g = let z = q e (omega arith) in omega arith
+
+  halve-looks : (lo hi : ℕ) → Halves lo hi (halved s x lo hi)
+  halve-looks =
+      halve-ind s x {P = Halves}
+      (record {
+        one = λ lo hi h e g. omega arith;
+        up = λ lo hi r h b q. half (hi - lo) (hi - mid lo hi) (looksOf r) h (omega arith) q;
+        down = λ lo hi r h b q. half (hi - lo) (mid lo hi - lo) (looksOf r) h (omega arith) q;
+      })
+
+  module _ (m p : ℕ) where
+    -- k + 1 looks were good, the last of them at 2 to the power of k: these and those to come
+    abbrev Gallops : ℕ → ℕ → Sought → Type 0
+    Gallops d lo r = (k : ℕ) → d ≡ 2 ^ suc k → lo ≡ p + 2 ^ k → looksOf r + suc k ≤ 2 * digits (r .j - p)
+
+    -- where doubling ends, the last good position tells the digits
+    ends : (lo hi k : ℕ) → lo ≡ p + 2 ^ k → hi - lo ≤ 2 ^ k → suc (looksOf (halved s x lo hi)) + suc k ≤ 2 * digits (halved s x lo hi .j - p)
+    ends lo hi k e g =
+        let z = halve-looks lo hi k g in
+        let f = halve-from s x lo hi in
+        let o = digits-over k (halved s x lo hi .j - p) (omega arith) in
+        omega arith
+
+    good-look : (looks k n : ℕ) → looks + suc (suc k) ≤ n → suc looks + suc k ≤ n
+    good-look looks k n h = omega arith
+
+    gallop-looks : (d lo : ℕ) → 1 ≤ d → Gallops d lo (galloped s x m p d lo)
+    gallop-looks =
+        gallop-ind s x m p {P = Gallops}
+        (record {
+          past = λ d lo h a k e l. let z = ends lo (m + 1) k l (omega arith) in omega arith;
+          fail = λ d lo h a b k e l. ends lo (p + d) k l (omega arith);
+          good = λ d lo r h a b q k e l. good-look (looksOf r) k _ (q (suc k) (omega arith) (omega arith));
+        })
+
+-- what a search costs that brings the finger n positions on: two looks for each binary digit of n, and one where it stays
+pub record Cost (n looks : ℕ) : Type 0 where
+  pub moved : 0 < n → looks ≤ 2 * digits n
+  pub stayed : n ≡ 0 → looks ≤ 1
+
+module _ (s : ℕ → ℕ) (x m p : ℕ) where
+  -- so much does every search, whatever the entries are
+  pub search-cost : Cost (searched s x m p .j - p) (looksOf (searched s x m p))
+  search-cost = go (decLe (p + 1) m) (decLe (s (p + 1)) x)
+    where
+      go : Dec (p + 1 ≤ m) → Dec (s (p + 1) ≤ x) → Cost (searched s x m p .j - p) (looksOf (searched s x m p))
+      go (no a) d = rw (search-past s x m p (omega arith)) (record { moved = λ h. omega arith; stayed = λ h. omega arith })
+      go (yes a) (no b) =
+          rw (search-fail s x m p a (omega arith)) (record { moved = λ h. absurd (omega arith); stayed = λ h. omega arith })
+      go (yes a) (yes b) =
+          let f = gallop-from s x m p 2 (p + 1) (omega arith) (omega arith) in
+          let l = gallop-looks s x m p 2 (p + 1) (omega arith) 0 refl refl in
+          rw (search-good s x m p a b) (record { moved = λ h. omega arith; stayed = λ h. absurd (omega arith) })
+
+  -- and so at most one, and two for each position that the finger moves on
+  pub search-linear : looksOf (searched s x m p) ≤ 1 + 2 * (searched s x m p .j - p)
+  search-linear = go _ _ search-cost
+    where
+      go : (n looks : ℕ) → Cost n looks → looks ≤ 1 + 2 * n
+      go zero looks c = c .stayed refl
+      go (suc n) looks c = let l = c .moved (omega arith) in let f = digits-few (suc n) in omega arith
