@@ -15,7 +15,8 @@ use record::Parts;
 use record::block_at;
 use words::bit;
 
-// Puts every slot whose bit is set, up to the cut, to the front.
+// Puts every slot whose bit is set, up to the cut, to the front. (x goes on before the bit is tested, so that the loop goes on alike for a set
+// bit and a clear one.)
 fn gather_bits(bits: &[u8], cut: u32, slots: &mut [u32]) -> usize
     requires { ⌜ (cut ≤ 1048576) × (cut ≤ 8 * length (now bits)) × (length (slotsToCut cut (now bits)) ≤ length (now slots)) ⌝ }
     ensures { λ r. ⌜ Front (slotsToCut cut (now (bits .entry))) r (now (slots .exit)) ⌝ }
@@ -33,7 +34,8 @@ fn gather_bits(bits: &[u8], cut: u32, slots: &mut [u32]) -> usize
     w
 }
 
-// Puts the slots that the codes of a block give behind the `at` slots that stand there.
+// Puts the slots that the codes of a block give behind the `at` slots that stand there. In a sound block no code is bad and none leads above u;
+// the definition stops there for any bytes, and so does this.
 fn gather_codes(s: &[u8], count: u32, first: u32, u: u32, slots: &mut [u32], at: usize) -> usize
     requires { ⌜ (first ≤ u) × (at + count ≤ length (now slots)) ⌝ }
     ensures { λ r. ⌜ Front (take at (now (slots .entry)) ++ readCodes u count first (now (s .entry)) .slots) r (now (slots .exit)) ⌝ }

@@ -17,7 +17,8 @@ pub struct Walked {
     pub codes: u64,
 }
 
-// Walks the first `count` slots through a list, the finger starting at 0. Those found stand at the front afterwards, in their order.
+// Walks the first `count` slots through a list, the finger starting at 0. Those found stand at the front afterwards, in their order: the
+// place written to is never ahead of the one read.
 pub fn walk(rec: &[u8], p: Parts, slots: &mut [u32], count: usize) -> Walked
     requires { ⌜ Opened (p .u) (p .block) (now rec) p × Candidates count (now slots) × (count ≤ 1048576) ⌝ }
     ensures { λ r. ⌜ Walks (walkList (listed (p .u) (p .block) (now (rec .entry))) 0 (take count (now (slots .entry)))) r (now (slots .exit)) ⌝ }

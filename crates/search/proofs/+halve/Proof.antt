@@ -20,111 +20,42 @@ halve-at t = and 1 halve-kinds.ps (is 1 halve-kinds.ps μ-halve t) halve.Pre
 abbrev halve-below : ℕ → In 1 halve-kinds.ps
 halve-below t = and 1 halve-kinds.ps (falls 1 halve-kinds.ps _<_ μ-halve t) halve.Pre
 
-halve-sub-if1 : (t : ℕ) → halve-lts.Need-sub-if1 (
-  entry-reads.Asked,
-  entry-reads.Learnt,
-  halve-below t,
-  halve.Post,
-) (halve-at t) halve.Post
-halve-sub-if1 t c = search needs
+-- the facts asked for, where the gap is t: a call on a smaller one is known to answer
+module _ (t : ℕ) where
+  sub-if1 : halve-lts.Need-sub-if1 (entry-reads.Asked, entry-reads.Learnt, halve-below t, halve.Post) (halve-at t) halve.Post
+  sub-if1 c = search needs
 
-halve-returns : (t : ℕ) → halve-lts.Need-returns (
-  entry-reads.Asked,
-  entry-reads.Learnt,
-  halve-below t,
-  halve.Post,
-) (halve-at t) halve.Post
-halve-returns t c = search narrow
+  returns : halve-lts.Need-returns (entry-reads.Asked, entry-reads.Learnt, halve-below t, halve.Post) (halve-at t) halve.Post
+  returns c = search narrow
 
-halve-sub-mid : (t : ℕ) → halve-lts.Need-sub-mid (
-  entry-reads.Asked,
-  entry-reads.Learnt,
-  halve-below t,
-  halve.Post,
-) (halve-at t) halve.Post
-halve-sub-mid t c = search needs
+  sub-mid : halve-lts.Need-sub-mid (entry-reads.Asked, entry-reads.Learnt, halve-below t, halve.Post) (halve-at t) halve.Post
+  sub-mid c = search needs
 
-halve-add-mid : (t : ℕ) → halve-lts.Need-add-mid (
-  entry-reads.Asked,
-  entry-reads.Learnt,
-  halve-below t,
-  halve.Post,
-) (halve-at t) halve.Post
-halve-add-mid t c = search needs
+  add-mid : halve-lts.Need-add-mid (entry-reads.Asked, entry-reads.Learnt, halve-below t, halve.Post) (halve-at t) halve.Post
+  add-mid c = search needs
 
-halve-entry-requires : (t : ℕ) → halve-lts.Need-entry-requires (
-  entry-reads.Asked,
-  entry-reads.Learnt,
-  halve-below t,
-  halve.Post,
-) (halve-at t) halve.Post
-halve-entry-requires t c κs = search needs
+  entry-requires : halve-lts.Need-entry-requires (entry-reads.Asked, entry-reads.Learnt, halve-below t, halve.Post) (halve-at t) halve.Post
+  entry-requires c κs = search needs
 
-halve-halve-requires : (t : ℕ) → halve-lts.Need-halve-requires (
-  entry-reads.Asked,
-  entry-reads.Learnt,
-  halve-below t,
-  halve.Post,
-) (halve-at t) halve.Post
-halve-halve-requires t c κs = search needs
+  halve-requires : halve-lts.Need-halve-requires (entry-reads.Asked, entry-reads.Learnt, halve-below t, halve.Post) (halve-at t) halve.Post
+  halve-requires c κs = search needs
 
-halve-add-looks : (t : ℕ) → halve-lts.Need-add-looks (
-  entry-reads.Asked,
-  entry-reads.Learnt,
-  halve-below t,
-  halve.Post,
-) (halve-at t) halve.Post
-halve-add-looks t c = omega (arith, few _ _ _ _ _ (c .before .halve .ensures))
+  add-looks : halve-lts.Need-add-looks (entry-reads.Asked, entry-reads.Learnt, halve-below t, halve.Post) (halve-at t) halve.Post
+  add-looks c = omega (arith, few _ _ _ _ _ (c .before .halve .ensures))
 
-halve-returns-2 : (t : ℕ) → halve-lts.Need-returns-2 (
-  entry-reads.Asked,
-  entry-reads.Learnt,
-  halve-below t,
-  halve.Post,
-) (halve-at t) halve.Post
-halve-returns-2 t c = search upper
+  returns-2 : halve-lts.Need-returns-2 (entry-reads.Asked, entry-reads.Learnt, halve-below t, halve.Post) (halve-at t) halve.Post
+  returns-2 c = search upper
 
-halve-halve-requires-2 : (t : ℕ) → halve-lts.Need-halve-requires-2 (
-  entry-reads.Asked,
-  entry-reads.Learnt,
-  halve-below t,
-  halve.Post,
-) (halve-at t) halve.Post
-halve-halve-requires-2 t c κs = search needs
+  halve-requires-2 : halve-lts.Need-halve-requires-2 (entry-reads.Asked, entry-reads.Learnt, halve-below t, halve.Post) (halve-at t) halve.Post
+  halve-requires-2 c κs = search needs
 
-halve-add-looks-2 : (t : ℕ) → halve-lts.Need-add-looks-2 (
-  entry-reads.Asked,
-  entry-reads.Learnt,
-  halve-below t,
-  halve.Post,
-) (halve-at t) halve.Post
-halve-add-looks-2 t c = omega (arith, few _ _ _ _ _ (c .before .halve2 .ensures))
+  add-looks-2 : halve-lts.Need-add-looks-2 (entry-reads.Asked, entry-reads.Learnt, halve-below t, halve.Post) (halve-at t) halve.Post
+  add-looks-2 c = omega (arith, few _ _ _ _ _ (c .before .halve2 .ensures))
 
-halve-returns-3 : (t : ℕ) → halve-lts.Need-returns-3 (
-  entry-reads.Asked,
-  entry-reads.Learnt,
-  halve-below t,
-  halve.Post,
-) (halve-at t) halve.Post
-halve-returns-3 t c = search lower
+  returns-3 : halve-lts.Need-returns-3 (entry-reads.Asked, entry-reads.Learnt, halve-below t, halve.Post) (halve-at t) halve.Post
+  returns-3 c = search lower
 
 pub +halve-spec : {M : Type 1} → statement M
-+halve-spec = close μ-halve λ t. halve-lts.spec (
-  entry-reads.Asked,
-  entry-reads.Learnt,
-  halve-below t,
-  halve.Post,
-)
-    (halve-at t)
-    halve.Post
-    (halve-sub-if1 t)
-    (halve-returns t)
-    (halve-sub-mid t)
-    (halve-add-mid t)
-    (halve-entry-requires t)
-    (halve-halve-requires t)
-    (halve-add-looks t)
-    (halve-returns-2 t)
-    (halve-halve-requires-2 t)
-    (halve-add-looks-2 t)
-    (halve-returns-3 t)
++halve-spec =
+    close μ-halve λ t.
+    halve-lts.spec (entry-reads.Asked, entry-reads.Learnt, halve-below t, halve.Post) (halve-at t) halve.Post (sub-if1 t) (returns t) (sub-mid t) (add-mid t) (entry-requires t) (halve-requires t) (add-looks t) (returns-2 t) (halve-requires-2 t) (add-looks-2 t) (returns-3 t)
