@@ -1,8 +1,9 @@
-// Codes of one to three bytes. The bytes of one block come as a slice of their own and are read once, from its start to its end.
+// Codes of one to three bytes, read and written. The bytes of one block come as a slice of their own and are read once, from its start to its end.
 ghost use mathlib.Core.Path.{_≡_};
-ghost use Prim.Native.Nat.{_≤_};
-ghost use lib.ListN.{drop};
-ghost use Rattle.paper.specs.Code.{codeOf};
+ghost use Prim.Native.Nat.{_+_, _≤_, _<_};
+ghost use lib.ListN.{length, drop};
+ghost use lib.Seq.{sets};
+ghost use Rattle.paper.specs.Code.{codeOf, codeBytes};
 ghost use Rattle.paper.specs.Block.{readCodes};
 ghost use Rattle.paper.specs.Walk.{seek};
 ghost use Rattle.codes.specs.Got.{asCode, Inside};
@@ -116,4 +117,37 @@ pub fn seek_in(s: &[u8], count: u32, first: u32, u: u32, x: u32) -> Stopped
         return Stopped { slot, codes };
     }
     Stopped { slot: 0, codes }
+}
+
+// How many bytes the code of v takes: as few as hold it.
+pub fn code_size(v: u32) -> usize
+    ensures { λ r. ⌜ (r ≡ length (codeBytes v)) × (r ≤ 3) ⌝ }
+{
+    if 16384 <= v {
+        return 3;
+    }
+    if 128 <= v {
+        return 2;
+    }
+    1
+}
+
+// Writes the code of v from `at` on, and tells the position behind it.
+pub fn put_code(s: &mut [u8], at: usize, v: u32) -> usize
+    requires { ⌜ (v < 2097152) × (at + length (codeBytes v) ≤ length (now s)) ⌝ }
+    ensures { λ r. ⌜ (r ≡ at + length (codeBytes v)) × (now (s .exit) ≡ sets (now (s .entry)) at (codeBytes v)) ⌝ }
+{
+    if v < 128 {
+        s[at] = v as u8;
+        return at + 1;
+    }
+    if v < 16384 {
+        s[at] = (128 + v % 128) as u8;
+        s[at + 1] = (v / 128) as u8;
+        return at + 2;
+    }
+    s[at] = (128 + v % 128) as u8;
+    s[at + 1] = (128 + v / 128 % 128) as u8;
+    s[at + 2] = (v / 16384) as u8;
+    at + 3
 }

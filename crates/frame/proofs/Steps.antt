@@ -10,12 +10,12 @@ use Rattle.paper.specs.Lists.{same}
 use Rattle.paper.specs.Bytes.{u32At, part}
 use Rattle.paper.specs.Record.{recordFault}
 use Rattle.paper.specs.Refusal.{verdict, tag, tooShort, fault1, fault2}
-use Rattle.paper.specs.Index.{fromEnd, startOf, uOf, blockLength, kOf, recordOf}
+use Rattle.paper.specs.Index.{fromEnd, startOf, uOf, blockLength, kOf, recordIn}
 use Rattle.paper.specs.Look.{numbersFault, frameFault, listFault, listsFault, inLists}
 use Rattle.paper.specs.declared.Verdict.{Verdict}
 use Rattle.laws.proofs.Parts.{length-part, part-end}
 use Rattle.laws.proofs.Equals.{same-is}
-use Rattle.laws.proofs.Frames.{framed, start-apart, start-within, lists-end, lists-bad, lists-next}
+use Rattle.laws.proofs.Frames.{Laid, framed, records-within, lists-end, lists-bad, lists-next}
 use Rattle.laws.proofs.Links.{number-links}
 
 -- a number by its distance from the end
@@ -84,18 +84,16 @@ pub frame : (bs : List ℕ) (r : Verdict) → r ≡ fault1 (length bs) (fault2 b
 unfolding frameFault
 frame bs r e = e
 
--- the lists: k of them are there, those from list i on are left, and the next record starts at from
-pub record Head (bs : List ℕ) (u B k : ℕ) (t : Verdict) (from i : ℕ) : Type 0 where
+-- the lists: k of them lie in bs, those from list i on are left, and the next record starts at from
+pub record Head (bs : List ℕ) (start : ℕ → ℕ) (u B k : ℕ) (t : Verdict) (from i : ℕ) : Type 0 where
+  pub laid : Laid (length bs) start k
   pub few : i ≤ k
-  pub at : from ≡ startOf bs i
-  pub same : listsFault (listFault u B) bs (startOf bs) (k - i) i ≡ t
+  pub at : from ≡ start i
+  pub same : listsFault (listFault u B) bs start (k - i) i ≡ t
 
 -- all lists are left
-pub lists-begin : (bs : List ℕ) (u B k : ℕ) → frameFault bs (length bs) .number ≡ 0 → u ≡ uOf bs → B ≡ blockLength bs → k ≡ kOf bs
-    → Head bs u B k (inLists bs) 0 0
-lists-begin bs u B k ok isU isB isK =
-    let z : k - 0 ≡ k = omega arith in
-    record { few = omega arith; at = sym (framed bs ok .first); same = rw (z, isU, isB, isK) }
+pub all-left : (bs : List ℕ) (start : ℕ → ℕ) (u B k : ℕ) → Laid (length bs) start k → Head bs start u B k (listsFault (listFault u B) bs start k 0) 0 0
+all-left bs start u B k h = let z : k - 0 ≡ k = omega arith in record { laid = h; few = omega arith; at = sym (h .first); same = rw z }
 
 -- an index that passes 1 to 5
 module _ (bs : List ℕ) (ok : frameFault bs (length bs) .number ≡ 0) where
@@ -119,47 +117,52 @@ module _ (bs : List ℕ) (ok : frameFault bs (length bs) .number ≡ 0) where
   pub block-some : (B : ℕ) → B ≡ blockLength bs → 0 < B
   block-some B is = rw is (framed bs ok .some-B)
 
-module _ {bs : List ℕ} (ok : frameFault bs (length bs) .number ≡ 0) {u B k : ℕ} {t : Verdict} {from i : ℕ} (h : Head bs u B k t from i) where
+  -- all its lists are left
+  pub lists-begin : (u B k : ℕ) → u ≡ uOf bs → B ≡ blockLength bs → k ≡ kOf bs → Head bs (startOf bs) u B k (inLists bs) 0 0
+  lists-begin u B k isU isB isK = rw (isU, isB, isK) (all-left bs (startOf bs) (uOf bs) (blockLength bs) (kOf bs) (records-within bs (framed bs ok)))
+
+module _ {bs : List ℕ} {start : ℕ → ℕ} {u B k : ℕ} {t : Verdict} {from i : ℕ} (h : Head bs start u B k t from i) where
   -- no list is left
   pub lists-done : k ≤ i → verdict 0 0 ≡ t
-  lists-done l = sym (lists-end (listFault u B) bs (startOf bs) (k - i) i (omega arith)) ∙ h .same
+  lists-done l = sym (lists-end (listFault u B) bs start (k - i) i (omega arith)) ∙ h .same
 
-  module _ (isK : k ≡ kOf bs) (l : i < k) (to : ℕ) (isT : to ≡ startOf bs (i + 1)) where
+  module _ (l : i < k) (to : ℕ) (isT : to ≡ start (i + 1)) where
     apart : from + 12 ≤ to
-    apart = rw (isT, h .at) (start-apart bs (framed bs ok) i (rw (← isK) l))
+    apart = rw (isT, h .at) (h .laid .apart i l)
 
     -- the next record lies forward
     pub part-start : from ≤ to
     part-start = omega (arith, apart)
 
-    -- within the index
+    -- within bs
     pub part-end-in : to ≤ length bs
-    part-end-in = rw isT (start-within bs (framed bs ok) (i + 1) (rw (← isK) (omega arith)))
+    part-end-in = rw isT (h .laid .inside (i + 1) (omega arith))
 
     -- and has 12 bytes or more
     pub record-long : 12 ≤ length (part bs from to)
     record-long = rw (length-part bs from to part-end-in) (omega (arith, apart))
 
-    record-is : part bs from to ≡ recordOf bs i
+    record-is : part bs from to ≡ recordIn bs start i
     record-is = rw (h .at, isT)
 
     module _ (r : ℕ) (isR : r ≡ recordFault u B (length (part bs from to)) (part bs from to)) where
-      fault-is : r ≡ recordFault u B (length (recordOf bs i)) (recordOf bs i)
+      fault-is : r ≡ recordFault u B (length (recordIn bs start i)) (recordIn bs start i)
       fault-is = isR ∙ ap (λ (l : List ℕ). recordFault u B (length l) l) record-is
 
       -- it has a fault
       pub lists-fault : ¬ (r ≡ 0) → verdict r i ≡ t
       lists-fault n =
           ap (λ (m : ℕ). verdict m i) fault-is
-          ∙ sym (lists-bad (listFault u B) bs (startOf bs) (k - i) i (omega arith) (λ z. n (fault-is ∙ z)))
+          ∙ sym (lists-bad (listFault u B) bs start (k - i) i (omega arith) (λ z. n (fault-is ∙ z)))
           ∙ h .same
 
       -- it has none
-      pub lists-turn : r ≡ 0 → Head bs u B k t to (i + 1)
+      pub lists-turn : r ≡ 0 → Head bs start u B k t to (i + 1)
       lists-turn z =
           let m : k - i - 1 ≡ k - (i + 1) = omega arith in
           record {
+            laid = h .laid;
             few = omega arith;
             at = isT;
-            same = rw (← m) (sym (lists-next (listFault u B) bs (startOf bs) (k - i) i (omega arith) (sym fault-is ∙ z)) ∙ h .same);
+            same = rw (← m) (sym (lists-next (listFault u B) bs start (k - i) i (omega arith) (sym fault-is ∙ z)) ∙ h .same);
           }

@@ -3,12 +3,15 @@ ghost use mathlib.Core.Path.{_≡_};
 ghost use Prim.Native.Nat.{_+_, _*_, _-_, _≤_, _<_};
 ghost use lib.ListN.{length, drop};
 ghost use Rattle.paper.specs.Lists.{same};
-ghost use Rattle.paper.specs.Refusal.{verdict, accepted, tag, tooShort, startsFault};
+ghost use Rattle.paper.specs.Refusal.{verdict, accepted, tag, fault4, fault4k, tooShort, startsFault};
 ghost use Rattle.paper.specs.Index.{fromEnd, startOf, kOf};
 ghost use Rattle.paper.specs.Look.{numbersFault, frameFault, inLists};
 use paper::Verdict;
 use record::check_record;
 use words::u32_at;
+
+// The four bytes that every index ends in. Looking compares with them, and closing writes them.
+pub const TAG: [u8; 4] = *b"SLOT";
 
 // The number that stands d bytes before the end.
 pub fn from_end(index: &[u8], d: usize) -> u32
@@ -36,7 +39,7 @@ fn tagged(index: &[u8]) -> bool
     ensures { λ r. ⌜ r ≡ same (drop (length (now (index .entry)) - 4) (now (index .entry))) tag ⌝ }
 {
     let at = index.len() - 4;
-    check::same(&index[at..at + 4], b"SLOT")
+    check::same(&index[at..at + 4], &TAG)
 }
 
 // Whether one of k records would be shorter than 12 bytes.
@@ -71,6 +74,38 @@ fn check_starts(index: &[u8], k: usize) -> u32
     0
 }
 
+// 4 of u and B, or 0 where both lie in their ranges.
+pub fn check_sizes(u: u32, block: u32) -> u32
+    ensures { λ r. ⌜ verdict r 0 ≡ fault4 u block accepted ⌝ }
+{
+    if u < 1 {
+        return 4;
+    }
+    if 1048576 < u {
+        return 4;
+    }
+    if block < 1 {
+        return 4;
+    }
+    if 128 < block {
+        return 4;
+    }
+    0
+}
+
+// 4 of k, or 0 where there are as many lists as there may be.
+pub fn check_count(k: usize) -> u32
+    ensures { λ r. ⌜ verdict r 0 ≡ fault4k k accepted ⌝ }
+{
+    if k < 1 {
+        return 4;
+    }
+    if 4096 < k {
+        return 4;
+    }
+    0
+}
+
 // The numbers of the trailer, 3 to 5. The sum is taken in 64 bits, where it cannot wrap.
 fn check_numbers(index: &[u8]) -> u32
     requires { ⌜ 24 ≤ length (now index) ⌝ }
@@ -80,25 +115,15 @@ fn check_numbers(index: &[u8]) -> u32
         return 3;
     }
     let u = from_end(index, 20);
-    if u < 1 {
-        return 4;
-    }
-    if 1048576 < u {
-        return 4;
-    }
     let block = from_end(index, 16);
-    if block < 1 {
-        return 4;
-    }
-    if 128 < block {
-        return 4;
+    let sizes = check_sizes(u, block);
+    if sizes != 0 {
+        return sizes;
     }
     let k = from_end(index, 12) as usize;
-    if k < 1 {
-        return 4;
-    }
-    if 4096 < k {
-        return 4;
+    let count = check_count(k);
+    if count != 0 {
+        return count;
     }
     let d = from_end(index, 8) as usize;
     if d + 4 * k + 24 != index.len() {

@@ -1,15 +1,16 @@
 -- One code. By position: how reading goes, path by path, for a reader that has the bytes as it read them and the tests as facts. Then the
 -- bytes of a value: they read back as the value, and nothing else does.
-use Prim.Native.Nat.{ℕ, _+_, _*_, _/_, _%_, _≤_, _<_}
+use Prim.Native.Nat.{ℕ, _+_, _-_, _*_, _/_, _%_, _≤_, _<_}
 use mathlib.Core.Path.{_≡_, sym, ap, subst, _∙_}
 use mathlib.Core.List.{List, [], _∷_, _++_}
 use native.Mathlib.Decide.{decLt, ℕ-discrete}
 use native.Mathlib.Omega.{arith}
-use lib.ListN.{length, drop}
+use lib.ListN.{length, drop, length-append}
 use borrow.Author.Tests.{lt-ltb, le-ltb, eq-eqb, ne-eqb}
 use Rattle.paper.specs.Bytes.{byteAt}
 use Rattle.paper.specs.Code.{Code, codeOf, second, third, codeBytes}
 use Rattle.paper.specs.Code.Code.{code, bad}
+use Rattle.paper.specs.Write.{gapCodes}
 use Rattle.laws.proofs.Parts.{AllBytes, all-tail, all-none, all-more, front, nothing}
 
 -- A code off the front of a list. Its second and third byte come with the value v of those before
@@ -125,7 +126,13 @@ code-length v = go (decLt v 128) (decLt v 16384)
     go (no g) (yes l) = rw (bytes-two v (omega arith) l) (record { some = omega arith; few = omega arith })
     go (no g) (no m) = rw (bytes-three v (omega arith)) (record { some = omega arith; few = omega arith })
 
--- all of them bytes
+-- and the codes of slots take as many for each
+pub gaps-few : (prev : ℕ) (xs : List ℕ) → length (gapCodes prev xs) ≤ 3 * length xs
+unfolding gapCodes
+gaps-few prev [] = omega arith
+gaps-few prev (x ∷ xs) = rw length-append (omega (arith, code-length (x - prev - 1) .few, gaps-few x xs))
+
+-- the bytes of a code are bytes
 pub all-code : (v : ℕ) → v < 2097152 → AllBytes (codeBytes v)
 all-code v small = go (decLt v 128) (decLt v 16384)
   where

@@ -10,23 +10,24 @@ use lib.ListN.{length, drop}
 use borrow.Author.Tests.{le-ltb, eq-eqb, ne-eqb, ltb-false, eqb-true}
 use Rattle.paper.specs.Lists.{pick, same}
 use Rattle.paper.specs.Record.{recordFault}
-use Rattle.paper.specs.Refusal.{verdict, accepted, orElse, within, tag, tooShort, startsFault, fault1, fault2, fault3, fault4, fault4k, fault5}
+use Rattle.paper.specs.Refusal.{verdict, accepted, orElse, within, tag, tooShort, startsFault, fault1, fault2, fault3, fault4, fault4k, fault5, fault12}
 use Rattle.paper.specs.Index.{editionOf, uOf, blockLength, kOf, dOf, startOf, recordIn, recordOf}
 use Rattle.paper.specs.Look.{frameFault, listFault, listsFault, look}
 use Rattle.paper.specs.declared.Verdict.{Verdict}
 
-one-up : (n : ℕ) → ¬ (suc n ≡ 0)
+-- a number of refusal is not 0
+pub one-up : (n : ℕ) → ¬ (suc n ≡ 0)
 one-up n z = omega arith
 
 -- a link that accepts has passed its test, and so have those behind it
-module _ (n : ℕ) (not : ¬ (n ≡ 0)) (rest : Verdict) where
+module _ (v : Verdict) (not : ¬ (v .number ≡ 0)) (rest : Verdict) where
   -- a test that is to pass
-  passed : (t : Bool) → pick t rest (verdict n 0) .number ≡ 0 → (t ≡ true) × (rest .number ≡ 0)
+  passed : (t : Bool) → pick t rest v .number ≡ 0 → (t ≡ true) × (rest .number ≡ 0)
   passed true e = (refl, e)
   passed false e = absurd (not e)
 
   -- a test that is to fail
-  failed : (t : Bool) → pick t (verdict n 0) rest .number ≡ 0 → (t ≡ false) × (rest .number ≡ 0)
+  pub failed : (t : Bool) → pick t v rest .number ≡ 0 → (t ≡ false) × (rest .number ≡ 0)
   failed true e = absurd (not e)
   failed false e = (refl, e)
 
@@ -34,9 +35,28 @@ module _ (n : ℕ) (not : ¬ (n ≡ 0)) (rest : Verdict) where
 pub within-passed : (n : ℕ) → ¬ (n ≡ 0) → (rest : Verdict) (lo hi x : ℕ) → within lo hi x (verdict n 0) rest .number ≡ 0
     → (lo ≤ x) × (x ≤ hi) × (rest .number ≡ 0)
 within-passed n not rest lo hi x e =
-    let p = failed n not _ _ e in
-    let q = failed n not rest _ (p .1) in
+    let p = failed (verdict n 0) not _ _ e in
+    let q = failed (verdict n 0) not rest _ (p .1) in
     (ltb-false _ _ (p .0), ltb-false _ _ (q .0), q .1)
+
+-- 5 of the starts
+pub starts-passed : (start : ℕ → ℕ) (k : ℕ) (rest : Verdict) → startsFault start k rest .number ≡ 0
+    → (start 0 ≡ 0) × (tooShort start k 0 ≡ false) × (rest .number ≡ 0)
+unfolding startsFault
+starts-passed start k rest e =
+    let p = passed (verdict 5 0) (one-up 4) _ _ e in
+    let q = failed (verdict 5 0) (one-up 4) rest _ (p .1) in
+    (eqb-true _ _ (p .0), q .0, q .1)
+
+-- 12
+pub room-passed : (room need : ℕ) (rest : Verdict) → fault12 room need rest .number ≡ 0 → (need ≤ room) × (rest .number ≡ 0)
+unfolding fault12
+room-passed room need rest e = let p = failed (verdict 12 need) (one-up 11) rest (ltb room need) e in (ltb-false _ _ (p .0), p .1)
+
+-- k, where 4 by itself finds no fault in it: there are not too many lists
+pub k-within : (k f : ℕ) → verdict f 0 ≡ fault4k k accepted → f ≡ 0 → k ≤ 4096
+unfolding fault4k
+k-within k f judged ok = within-passed 4 (one-up 3) accepted 1 4096 k (sym (ap (λ (v : Verdict). v .number) judged) ∙ ok) .1
 
 -- no record is too short: the starts rise by 12 or more
 either : (s t : Bool) → (s || t) ≡ false → (s ≡ false) × (t ≡ false)
@@ -44,6 +64,7 @@ either true t e = absurd (let z : _≡_ {A = ℕ} 0 1 = cc in omega arith)
 either false t e = (refl, e)
 
 module _ (start : ℕ → ℕ) where
+  -- each is 12 or more before the next
   apart-from : (k i : ℕ) → tooShort start k i ≡ false → (j : ℕ) → i ≤ j → j < i + k → start j + 12 ≤ start (j + 1)
   unfolding tooShort
   apart-from zero i e j l m = absurd (omega arith)
@@ -53,6 +74,7 @@ module _ (start : ℕ → ℕ) where
       go here behind (yes z) = rw (← z) (ltb-false _ _ here)
       go here behind (no n) = behind (omega arith) (omega arith)
 
+  -- so none is above a later one
   rise-to : (d i : ℕ) → ((j : ℕ) → i ≤ j → j < i + d → start j + 12 ≤ start (j + 1)) → start i ≤ start (i + d)
   rise-to zero i f = let e : i + 0 ≡ i = omega arith in rw e (omega arith)
   rise-to (suc d) i f =
@@ -60,6 +82,25 @@ module _ (start : ℕ → ℕ) where
       let r = rise-to d (i + 1) (λ j l m. f j (omega arith) (omega arith)) in
       let h = f i (omega arith) (omega arith) in
       let q = rw e at r in omega arith
+
+-- k records lie one behind the other from 0 on, none of them beyond `size`
+pub record Laid (size : ℕ) (start : ℕ → ℕ) (k : ℕ) : Type 0 where
+  pub first : start 0 ≡ 0
+  pub apart : (i : ℕ) → i < k → start i + 12 ≤ start (i + 1)
+  pub inside : (i : ℕ) → i ≤ k → start i ≤ size
+
+-- what 5 says of the starts where it passes, and an end that is not beyond it
+pub laid : (size : ℕ) (start : ℕ → ℕ) (k : ℕ) → start 0 ≡ 0 → tooShort start k 0 ≡ false → start k ≤ size → Laid size start k
+laid size start k first short end = record { first = first; apart = apart; inside = inside }
+  where
+    apart : (i : ℕ) → i < k → start i + 12 ≤ start (i + 1)
+    apart i l = apart-from start k 0 short i (omega arith) (omega arith)
+
+    inside : (i : ℕ) → i ≤ k → start i ≤ size
+    inside i l =
+        let e : i + (k - i) ≡ k = omega arith in
+        let r = rw e at (rise-to start (k - i) i (λ j a b. apart j (omega arith))) in
+        omega arith
 
 -- what 1 to 5 say where they pass
 pub record Framed (bs : List ℕ) : Type 0 where
@@ -79,17 +120,16 @@ pub record Framed (bs : List ℕ) : Type 0 where
 
 -- where 1 to 5 find no fault
 pub framed : (bs : List ℕ) → frameFault bs (length bs) .number ≡ 0 → Framed bs
-unfolding frameFault fault1 fault2 fault3 fault4 fault4k fault5 startsFault
+unfolding frameFault fault1 fault2 fault3 fault4 fault4k fault5
 framed bs ok =
     let a = within-passed 1 (one-up 0) _ 24 16777216 (length bs) ok in
-    let b = passed 2 (one-up 1) _ _ (a .2) in
-    let c = passed 3 (one-up 2) _ _ (b .1) in
+    let b = passed (verdict 2 0) (one-up 1) _ _ (a .2) in
+    let c = passed (verdict 3 0) (one-up 2) _ _ (b .1) in
     let d = within-passed 4 (one-up 3) _ 1 1048576 (uOf bs) (c .1) in
     let e = within-passed 4 (one-up 3) _ 1 128 (blockLength bs) (d .2) in
     let f = within-passed 4 (one-up 3) _ 1 4096 (kOf bs) (e .2) in
-    let g = passed 5 (one-up 4) _ _ (f .2) in
-    let h = passed 5 (one-up 4) _ _ (g .1) in
-    let i = failed 5 (one-up 4) _ _ (h .1) in
+    let g = passed (verdict 5 0) (one-up 4) _ _ (f .2) in
+    let h = starts-passed (startOf bs) (kOf bs) accepted (g .1) in
     record {
       least = a .0;
       most = a .1;
@@ -102,8 +142,8 @@ framed bs ok =
       some-k = f .0;
       most-k = f .1;
       sum = eqb-true _ _ (g .0);
-      first = eqb-true _ _ (h .0);
-      short = i .0;
+      first = h .0;
+      short = h .1;
     }
 
 -- behind the last record lies D
@@ -112,20 +152,21 @@ unfolding startOf
 start-end bs = simp (le-ltb (kOf bs) (kOf bs) (omega arith))
 
 module _ (bs : List ℕ) (f : Framed bs) where
-  -- each record has 12 bytes or more
-  pub start-apart : (i : ℕ) → i < kOf bs → startOf bs i + 12 ≤ startOf bs (i + 1)
-  start-apart i l = apart-from (startOf bs) (kOf bs) 0 (f .short) i (omega arith) (omega arith)
-
-  -- and lies before D
-  start-inside : (i : ℕ) → i ≤ kOf bs → startOf bs i ≤ dOf bs
-  start-inside i l =
-      let e : i + (kOf bs - i) ≡ kOf bs = omega arith in
-      let r = rise-to (startOf bs) (kOf bs - i) i (λ j a b. start-apart j (omega arith)) in
-      rw (← start-end bs, ← e) r
+  -- its records lie before D
+  pub records-laid : (size : ℕ) → dOf bs ≤ size → Laid size (startOf bs) (kOf bs)
+  records-laid size l = laid size (startOf bs) (kOf bs) (f .first) (f .short) (rw (start-end bs) l)
 
   -- and so within the index
+  pub records-within : Laid (length bs) (startOf bs) (kOf bs)
+  records-within = records-laid (length bs) (let s = f .sum in omega arith)
+
+  -- each has 12 bytes or more
+  pub start-apart : (i : ℕ) → i < kOf bs → startOf bs i + 12 ≤ startOf bs (i + 1)
+  start-apart = records-within .apart
+
+  -- and none starts behind the end of the index
   pub start-within : (i : ℕ) → i ≤ kOf bs → startOf bs i ≤ length bs
-  start-within i l = omega (arith, start-inside i l, f .sum)
+  start-within = records-within .inside
 
 -- the lists, one after the other
 module _ (test : ℕ → List ℕ → Verdict) (bs : List ℕ) (start : ℕ → ℕ) (k i : ℕ) where
@@ -185,6 +226,17 @@ module _ (v w : Verdict) where
       go : Dec (v .number ≡ 0) → (v .number ≡ 0) × (w .number ≡ 0)
       go (yes z) = (z, rw (or-second z) at ok)
       go (no n) = absurd (n (rw (or-first n) at ok))
+
+-- lists without a fault are accepted, the place being 0
+pub lists-accept : (test : ℕ → List ℕ → Verdict) (bs : List ℕ) (start : ℕ → ℕ) (k i : ℕ) → listsFault test bs start k i .number ≡ 0
+    → listsFault test bs start k i ≡ accepted
+unfolding listsFault
+lists-accept test bs start zero i ok = refl
+lists-accept test bs start (suc k) i ok =
+    let here = test i (recordIn bs start i) in
+    let later = listsFault test bs start k (i + 1) in
+    let p = or-both here later ok in
+    or-second here later (p .0) ∙ lists-accept test bs start k (i + 1) (p .1)
 
 -- an index that looking accepts
 pub record Accepted (bs : List ℕ) : Type 0 where

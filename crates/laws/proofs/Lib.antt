@@ -3,6 +3,8 @@ pub mod Lists
 pub mod Parts
 pub mod Equals
 pub mod Words
+pub mod Stores
+pub mod Clearing
 pub mod Rounding
 pub mod Bits
 pub mod Octets

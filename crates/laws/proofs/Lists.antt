@@ -65,13 +65,24 @@ in-at [] i l = absurd (omega arith)
 in-at (x ∷ xs) zero l = here refl
 in-at (x ∷ xs) (suc i) l = there (in-at xs i (omega arith))
 
+-- and it is the same, whatever stands for one past the end
+pub at-any : (xs : List ℕ) (i a b : ℕ) → i < length xs → getD xs i a ≡ getD xs i b
+at-any [] i a b l = absurd (omega arith)
+at-any (x ∷ xs) zero a b l = refl
+at-any (x ∷ xs) (suc i) a b l = at-any xs i a b (omega arith)
+
 -- each of a list is of one kind
 abbrev pub Each : {A : Type 0} → (A → Type 0) → List A → Type 0
 Each P [] = Unit {0}
 Each P (x ∷ xs) = P x × Each P xs
 
+-- what each is may be said more widely
+pub each-wide : {A : Type 0} (P Q : A → Type 0) → ((x : A) → P x → Q x) → (xs : List A) → Each P xs → Each Q xs
+each-wide P Q f [] e = tt
+each-wide P Q f (x ∷ xs) e = (f x (e .0), each-wide P Q f xs (e .1))
+
 module _ (P : ℕ → Type 0) where
-  -- and so is the one at a place
+  -- the one at a place is of that kind too
   pub each-at : (xs : List ℕ) → Each P xs → (i : ℕ) → i < length xs → P (getD xs i 0)
   each-at [] e i l = absurd (omega arith)
   each-at (x ∷ xs) e zero l = e .0

@@ -20,13 +20,15 @@ unfolding bitBytes
 bits-length t zero x = refl
 bits-length t (suc k) x = ap suc (bits-length t k (x + 8))
 
-bits-get : (t : ℕ → Bool) (k x j : ℕ) → j < k → getD (bitBytes t x k) j 0 ≡ octet t (x + 8 * j)
+-- byte j of them
+pub bits-get : (t : ℕ → Bool) (k x j : ℕ) → j < k → getD (bitBytes t x k) j 0 ≡ octet t (x + 8 * j)
 unfolding bitBytes
 bits-get t zero x j l = absurd (omega arith)
 bits-get t (suc k) x zero l = ap (octet t) (omega arith)
 bits-get t (suc k) x (suc j) l = bits-get t k (x + 8) j (omega arith) ∙ ap (octet t) (omega arith)
 
-bit-le : (b : Bool) → bitOf b ≤ 1
+-- a test as a number is at most 1
+pub bit-le : (b : Bool) → bitOf b ≤ 1
 bit-le true = omega arith
 bit-le false = omega arith
 
@@ -79,7 +81,8 @@ module _ (b : ℕ → ℕ) (le : (i : ℕ) → b i ≤ 1) (n : ℕ)
       let d : n / 1 ≡ n = omega arith in rw d (omega (arith, le 7))
   digits (suc (suc (suc (suc (suc (suc (suc (suc r)))))))) l = absurd (omega arith)
 
-octet-digit : (t : ℕ → Bool) (x r : ℕ) → r < 8 → digit (octet t x) (7 - r) ≡ bitOf (t (x + r))
+-- the digits of a byte of bits are these bits, the first on top
+pub octet-digit : (t : ℕ → Bool) (x r : ℕ) → r < 8 → digit (octet t x) (7 - r) ≡ bitOf (t (x + r))
 unfolding octet
 octet-digit t x r l =
     let e : octet t x ≡ 128 * bitOf (t (x + 0)) + 64 * bitOf (t (x + 1)) + 32 * bitOf (t (x + 2)) + 16 * bitOf (t (x + 3)) + 8 * bitOf (t (x + 4))
@@ -160,7 +163,7 @@ bits-same bits all =
     (λ j l. byte-back bits j all ∙ sym (bits-get (bitAt bits) (length bits) 1 j l))
 
 -- and go by them alone: one byte
-octet-same : (t s : ℕ → Bool) (x : ℕ) → ((y : ℕ) → x ≤ y → y < x + 8 → t y ≡ s y) → octet t x ≡ octet s x
+pub octet-same : (t s : ℕ → Bool) (x : ℕ) → ((y : ℕ) → x ≤ y → y < x + 8 → t y ≡ s y) → octet t x ≡ octet s x
 unfolding octet
 octet-same t s x m =
     rw (

@@ -1,11 +1,11 @@
 -- A number and its four bytes: its bound, where it stands behind other bytes, and that each determines the other.
 use Prim.Native.Nat.{ℕ, zero, suc, _+_, _*_, _-_, _/_, _%_, _≤_, _<_}
 use mathlib.Core.Path.{_≡_, refl, sym, ap, _∙_}
-use mathlib.Core.List.{List, [], _∷_, _++_}
+use mathlib.Core.List.{List, [], _∷_, _++_, map, flatten}
 use native.Mathlib.Nat.{add-zero}
 use native.Mathlib.Omega.{arith}
 use lib.Dec.{lit<}
-use lib.ListN.{length, take, drop}
+use lib.ListN.{length, take, drop, length-append}
 use lib.Seq.{getD-take, getD-drop, getD-append-add}
 use Rattle.paper.specs.Bytes.{byteAt, u32At, part, u32Bytes}
 use Rattle.laws.proofs.Parts.{AllBytes}
@@ -42,6 +42,12 @@ word-behind xs ys i = word-same (xs ++ ys) ys (length xs + i) i λ d h. ap (byte
 pub length-word : (x : ℕ) → length (u32Bytes x) ≡ 4
 unfolding u32Bytes
 length-word x = refl
+
+-- those of several numbers
+pub length-words : (xs : List ℕ) → length (flatten (map u32Bytes xs)) ≡ 4 * length xs
+unfolding flatten
+length-words [] = refl
+length-words (x ∷ xs) = rw (length-append, length-word, length-words xs) (omega arith)
 
 -- all of them bytes
 pub all-word : (x : ℕ) → AllBytes (u32Bytes x)

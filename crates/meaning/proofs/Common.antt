@@ -1,7 +1,7 @@
 -- The slots common to lists: which they are, that they ascend, and that the smallest list, walked through the others, gives the same slots.
 use Prim.Native.Nat.{ℕ, zero, suc, _≤_, _<_}
 use mathlib.Core.Path.{_≡_, refl, sym, ap, _∙_}
-use mathlib.Core.Bool.{Bool, true, false, _&&_, true≢false}
+use mathlib.Core.Bool.{Bool, true, false, true≢false, and-eq-true-iff}
 use mathlib.Core.List.{List, [], _∷_, map}
 use native.Mathlib.Decide.{ℕ-discrete}
 use native.Mathlib.Omega.{arith}
@@ -52,17 +52,8 @@ common-rise : (u a : ℕ) (l : List ℕ) (ls : List (List ℕ)) → Ascends u a 
 unfolding common
 common-rise u a l ls o = keep-rise (inAll ls) u a l o
 
--- both tests pass
-and-first : (a b : Bool) → a && b ≡ true → a ≡ true
-and-first true b h = refl
-and-first false b h = h
-
-and-second : (a b : Bool) → a && b ≡ true → b ≡ true
-and-second true b h = h
-and-second false b h = absurd (true≢false (sym h))
-
 -- two tests that pass together are the same
-same-test : (a b : Bool) → (a ≡ true → b ≡ true) → (b ≡ true → a ≡ true) → a ≡ b
+pub same-test : (a b : Bool) → (a ≡ true → b ≡ true) → (b ≡ true → a ≡ true) → a ≡ b
 same-test true b f g = sym (f refl)
 same-test false true f g = g refl
 same-test false false f g = refl
@@ -72,8 +63,8 @@ module _ (f : List ℕ → List ℕ) (z : ℕ) where
   in-each : (rs : List (List ℕ)) → inAll (map f rs) z ≡ true → (i : ℕ) → i < length rs → has z (f (getD rs i [])) ≡ true
   unfolding inAll
   in-each [] h i l = absurd (omega arith)
-  in-each (r ∷ rs) h zero l = and-first (has z (f r)) (inAll (map f rs) z) h
-  in-each (r ∷ rs) h (suc i) l = in-each rs (and-second (has z (f r)) (inAll (map f rs) z) h) i (omega arith)
+  in-each (r ∷ rs) h zero l = and-eq-true-iff (has z (f r)) (inAll (map f rs) z) .0 h .0
+  in-each (r ∷ rs) h (suc i) l = in-each rs (and-eq-true-iff (has z (f r)) (inAll (map f rs) z) .0 h .1) i (omega arith)
 
   each-in : (rs : List (List ℕ)) → ((i : ℕ) → i < length rs → has z (f (getD rs i [])) ≡ true) → inAll (map f rs) z ≡ true
   unfolding inAll

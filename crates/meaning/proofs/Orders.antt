@@ -11,13 +11,8 @@ use lib.Dec.{ltb, eqb}
 use borrow.Author.Tests.{lt-ltb, le-ltb, eq-eqb, ne-eqb}
 use Rattle.paper.specs.Lists.{has}
 use Rattle.paper.specs.Question.{placed, orderFrom, order}
-use Rattle.laws.proofs.Lists.{has-none, has-there, in-has, Each, each-at, each-in}
+use Rattle.laws.proofs.Lists.{has-none, has-there, in-has, Each, each-wide, each-at, each-in}
 use Rattle.laws.proofs.Orders.{place-last, place-here, place-on}
-
--- what each number of a list is may be said more widely
-each-wide : (P Q : ℕ → Type 0) → ((x : ℕ) → P x → Q x) → (xs : List ℕ) → Each P xs → Each Q xs
-each-wide P Q f [] e = tt
-each-wide P Q f (x ∷ xs) e = (f x (e .0), each-wide P Q f xs (e .1))
 
 -- tests of numbers
 or-swap : (a b c : Bool) → a || (b || c) ≡ b || (a || c)

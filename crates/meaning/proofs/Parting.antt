@@ -88,7 +88,8 @@ module _ (c : ℕ) where
   above xs = keep (λ x. ltb c x) xs
 
   module _ (x : ℕ) (xs : List ℕ) where
-    low-yes : x ≤ c → upTo (x ∷ xs) ≡ x ∷ upTo xs
+    -- a slot up to the cut
+    pub low-yes : x ≤ c → upTo (x ∷ xs) ≡ x ∷ upTo xs
     low-yes l = keep-pass (λ x. leb x c) x xs (le-leb x c l)
 
     low-no : c < x → upTo (x ∷ xs) ≡ upTo xs
@@ -101,7 +102,7 @@ module _ (c : ℕ) where
     high-no l = keep-fail (λ x. ltb c x) x xs (le-ltb c x l)
 
   -- of slots that rise above c all are above it
-  none-low : (u : ℕ) (t : List ℕ) → Ascends u c t → upTo t ≡ []
+  pub none-low : (u : ℕ) (t : List ℕ) → Ascends u c t → upTo t ≡ []
   unfolding keep
   none-low u [] a = refl
   none-low u (x ∷ t) a = low-no x t (a .0) ∙ none-low u t (rise-lower u c x t (omega arith) (a .2))

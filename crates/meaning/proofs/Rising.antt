@@ -1,12 +1,13 @@
 -- Strictly ascending lists of slots, and where a slot stands in one.
-use Prim.Native.Nat.{ℕ, _+_, _≤_, _<_}
+use Prim.Native.Nat.{ℕ, zero, suc, _+_, _≤_, _<_}
 use mathlib.Core.Path.{_≡_, sym, _∙_}
 use mathlib.Core.Bool.{true, false}
 use mathlib.Core.List.{List, [], _∷_, _++_}
 use native.Mathlib.Omega.{arith}
-use lib.ListN.{length}
+use lib.ListN.{length, getD, take, drop}
 use Rattle.paper.specs.Lists.{has, lastOf}
 use Rattle.laws.proofs.Lists.{has-none, has-here, has-there}
+use Rattle.laws.proofs.Parts.{front}
 
 -- each slot is above the one before it, the first above prev, and none above u
 abbrev pub Ascends : ℕ → ℕ → List ℕ → Type 0
@@ -49,6 +50,22 @@ module _ (u : ℕ) where
   pub rise-back : (p : ℕ) (xs ys : List ℕ) → Ascends u p (xs ++ ys) → Ascends u (lastOf p xs) ys
   rise-back p [] ys a = a
   rise-back p (x ∷ xs) ys a = rise-back x xs ys (a .2)
+
+  -- those behind the first i, with the same lower bound
+  rise-drop : (p i : ℕ) (xs : List ℕ) → Ascends u p xs → Ascends u p (drop i xs)
+  rise-drop p zero xs a = a
+  rise-drop p (suc i) [] a = tt
+  rise-drop p (suc i) (x ∷ xs) a = rise-drop p i xs (rise-lower u p x xs (omega arith) (a .2))
+
+  -- and so where the first of them is x
+  pub rise-at : (p i : ℕ) (xs : List ℕ) → Ascends u p xs → i < length xs → (x : ℕ) → x ≡ getD xs i 0 → Ascends u p (x ∷ drop (i + 1) xs)
+  rise-at p i xs a l x is = rw (front xs i x l is) at (rise-drop p i xs a)
+
+  -- the first i
+  pub rise-take : (p i : ℕ) (xs : List ℕ) → Ascends u p xs → Ascends u p (take i xs)
+  rise-take p zero xs a = tt
+  rise-take p (suc i) [] a = tt
+  rise-take p (suc i) (x ∷ xs) a = (a .0, a .1, rise-take x i xs (a .2))
 
   -- there are no more of them than numbers above p within u
   pub rise-length : (p : ℕ) (xs : List ℕ) → p ≤ u → Ascends u p xs → p + length xs ≤ u

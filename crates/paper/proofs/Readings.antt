@@ -243,6 +243,7 @@ writing-rows =
     (448, closing (list0 ++ list1 ++ room 31) 32 4 79 (1 ∷ 55 ∷ []) (12 ∷ 111 ∷ 0 ∷ []) (list0 ++ list1 ++ room 31)) ∷
     (449, closing (list0 ++ set list1 22 6 ++ room 32) 32 4 79 (0 ∷ 55 ∷ []) (9 ∷ 1 ∷ 0 ∷ []) (list0 ++ set list1 22 6 ++ room 32)) ∷
     (450, closing (room 9) 0 4 4294967295 (7 ∷ []) (4 ∷ 0 ∷ 0 ∷ []) (room 9)) ∷
+    (451, closing (room 9) 32 4 4294967295 [] (4 ∷ 0 ∷ 0 ∷ []) (room 9)) ∷
     []
 
 -- The program: leading zeros, the largest number and one more, 256 and 257 bytes, no number, other bytes, a way alone, 127 names

@@ -42,7 +42,8 @@ module _ (bs : List ℕ) (t : Trailer) (records starts : List ℕ) (f : Filled b
   all-is : bs ≡ records ++ (words starts ++ (words (numbersOf t) ++ t .last))
   all-is = ends .is ∙ rw (f .is, append-assoc)
 
-  start-at : (i : ℕ) → i < t .k → startOf bs i ≡ getD starts i 0
+  -- start i is the i-th of the directory
+  pub start-at : (i : ℕ) → i < t .k → startOf bs i ≡ getD starts i 0
   unfolding startOf fromEnd
   start-at i l =
       let k-is = k-read bs t ends in

@@ -32,6 +32,37 @@ module _ (lo hi x : ℕ) (v : Verdict) where
   within-either : within lo hi x v v ≡ v
   within-either = rw (same-either (ltb hi x) v) (same-either (ltb x lo) v)
 
+-- Row 4, before whatever follows
+module _ (u B : ℕ) (rest : Verdict) where
+  -- u is out of its range
+  pub four-u : Outside 1 1048576 u → fault4 u B rest ≡ verdict 4 0
+  unfolding fault4
+  four-u o = within-fails 1 1048576 u (verdict 4 0) _ o
+
+  -- or B is
+  pub four-B : Outside 1 128 B → fault4 u B rest ≡ verdict 4 0
+  unfolding fault4
+  four-B o = rw (within-fails 1 128 B (verdict 4 0) rest o) (within-either 1 1048576 u (verdict 4 0))
+
+  -- or both lie in theirs
+  pub four-passes : Inside 1 1048576 u → Inside 1 128 B → fault4 u B rest ≡ rest
+  unfolding fault4
+  four-passes i j = within-passes 1 1048576 u (verdict 4 0) _ i ∙ within-passes 1 128 B (verdict 4 0) rest j
+
+  module _ (k : ℕ) where
+    -- or k is out of its range
+    pub four-k : Outside 1 4096 k → fault4 u B (fault4k k rest) ≡ verdict 4 0
+    unfolding fault4 fault4k
+    four-k o =
+        ap (λ (v : Verdict). fault4 u B v) (within-fails 1 4096 k (verdict 4 0) rest o)
+        ∙ rw (within-either 1 128 B (verdict 4 0)) (within-either 1 1048576 u (verdict 4 0))
+
+    -- or all three lie in theirs
+    pub four-all : Inside 1 1048576 u → Inside 1 128 B → Inside 1 4096 k → fault4 u B (fault4k k rest) ≡ rest
+    unfolding fault4 fault4k
+    four-all i j l =
+        within-passes 1 1048576 u (verdict 4 0) _ i ∙ within-passes 1 128 B (verdict 4 0) _ j ∙ within-passes 1 4096 k (verdict 4 0) rest l
+
 -- The tests of an index, from some row on
 module _ (bs : List ℕ) where
   abbrev from5 : Verdict
@@ -78,37 +109,21 @@ module _ (bs : List ℕ) where
     module _ (g : Edited bs t) where
       -- u
       pub frame-4u : Outside 1 1048576 (t .u) → frameFault bs (length bs) ≡ verdict 4 0
-      unfolding fault4
-      frame-4u o = pass-3 g ∙ rw (u-read bs t (g .tagged .ends)) (within-fails 1 1048576 (t .u) (verdict 4 0) _ o)
+      frame-4u o = pass-3 g ∙ four-u (uOf bs) (blockLength bs) _ (rw (u-read bs t (g .tagged .ends)) o)
 
       -- B
       pub frame-4B : Outside 1 128 (t .B) → frameFault bs (length bs) ≡ verdict 4 0
-      unfolding fault4
-      frame-4B o =
-          pass-3 g
-          ∙ rw (B-read bs t (g .tagged .ends), within-fails 1 128 (t .B) (verdict 4 0) (fault4k (kOf bs) from5) o)
-          (within-either 1 1048576 (uOf bs) (verdict 4 0))
+      frame-4B o = pass-3 g ∙ four-B (uOf bs) (blockLength bs) _ (rw (B-read bs t (g .tagged .ends)) o)
 
       -- k
       pub frame-4k : Outside 1 4096 (t .k) → frameFault bs (length bs) ≡ verdict 4 0
-      unfolding fault4 fault4k
-      frame-4k o =
-          pass-3 g
-          ∙ ap (λ (v : Verdict). fault4 (uOf bs) (blockLength bs) v)
-          (ap (λ (k : ℕ). within 1 4096 k (verdict 4 0) from5) (k-read bs t (g .tagged .ends)) ∙ within-fails 1 4096 (t .k) (verdict 4 0) from5 o)
-          ∙ rw (within-either 1 128 (blockLength bs) (verdict 4 0)) (within-either 1 1048576 (uOf bs) (verdict 4 0))
+      frame-4k o = pass-3 g ∙ four-k (uOf bs) (blockLength bs) from5 (kOf bs) (rw (k-read bs t (g .tagged .ends)) o)
 
     pass-4 : Ranged bs t → frameFault bs (length bs) ≡ from5
-    unfolding fault4 fault4k
     pass-4 g =
         let e = g .edited .tagged .ends in
-        let hu : Inside 1 1048576 (uOf bs) = rw (u-read bs t e) (g .u) in
-        let hB : Inside 1 128 (blockLength bs) = rw (B-read bs t e) (g .B) in
-        let hk : Inside 1 4096 (kOf bs) = rw (k-read bs t e) (g .k) in
         pass-3 (g .edited)
-        ∙ within-passes 1 1048576 (uOf bs) (verdict 4 0) _ hu
-        ∙ within-passes 1 128 (blockLength bs) (verdict 4 0) _ hB
-        ∙ within-passes 1 4096 (kOf bs) (verdict 4 0) from5 hk
+        ∙ four-all (uOf bs) (blockLength bs) from5 (kOf bs) (rw (u-read bs t e) (g .u)) (rw (B-read bs t e) (g .B)) (rw (k-read bs t e) (g .k))
 
     -- row 5
     pub frame-5 : Ranged bs t → ¬ (t .D + 4 * t .k + 24 ≡ length bs) → frameFault bs (length bs) ≡ verdict 5 0
@@ -119,7 +134,8 @@ module _ (bs : List ℕ) where
 
     -- the starts
     module _ (records starts : List ℕ) (f : Filled bs t records starts) where
-      to-starts : frameFault bs (length bs) ≡ startsFault (startOf bs) (length starts) accepted
+      -- are then all that is left of rows 1 to 5
+      pub to-starts : frameFault bs (length bs) ≡ startsFault (startOf bs) (length starts) accepted
       unfolding fault5
       to-starts =
           let e = f .ranged .edited .tagged .ends in

@@ -1,4 +1,4 @@
--- Looking list by list: the first record with a fault gives its number and its position.
+-- Looking list by list: the first record with a fault gives its number and its position. Before that, the first of a list that is not as those before it.
 use Prim.Native.Nat.{ℕ, suc, _+_, _≤_}
 use mathlib.Core.Path.{_≡_, refl, sym, ap, ap₂, _∙_}
 use mathlib.Core.Logic.{_⊎_}
@@ -17,6 +17,37 @@ use Rattle.laws.proofs.Parts.{AllBytes, all-front, all-behind}
 use Rattle.promises.proofs.RecordRows.{RecordRefused, RecordSound}
 use Rattle.promises.proofs.RecordNumbers.{record-number, record-sound}
 use Rattle.promises.proofs.IndexDirectory.{Lie, lie-start, record-read}
+
+-- The first of a list that is of the kind Q; those before it are of the kind P
+pub record First {A : Type 0} (P Q : A → Type 0) (xs : List A) : Type 0 where
+  pub front : List A
+  pub bad : A
+  pub behind : List A
+  pub is : xs ≡ front ++ bad ∷ behind
+  pub good : Each P front
+  pub here : Q bad
+
+-- where each thing is of one kind or of the other, all are of the kind P, or there is a first that is not
+pub first-or : {A : Type 0} (P Q : A → Type 0) → ((x : A) → P x ⊎ Q x) → (xs : List A) → Each P xs ⊎ First P Q xs
+first-or P Q kind [] = inl tt
+first-or {A} P Q kind (x ∷ xs) =
+    elim (kind x) [
+      | inr q ↦ inr (record { front = []; bad = x; behind = xs; is = refl; good = tt; here = q })
+      | inl p ↦
+          elim (first-or P Q kind xs) [
+            | inl e ↦ inl (p, e)
+            | inr f ↦
+                inr
+                (record {
+                  front = x ∷ f .front;
+                  bad = f .bad;
+                  behind = f .behind;
+                  is = ap (λ (l : List A). x ∷ l) (f .is);
+                  good = (p, f .good);
+                  here = f .here;
+                })
+          ]
+    ]
 
 -- the first fault of records, the first of them being list i
 unfoldable pub firstOf : (ℕ → List ℕ → Verdict) → ℕ → List (List ℕ) → Verdict
@@ -65,40 +96,8 @@ module _ (u B : ℕ) where
       let z : i + 1 + length front ≡ i + suc (length front) = omega arith in
       first-on i x (front ++ r ∷ behind) (e .0) ∙ faulty-at front r behind (i + 1) (e .1) n ∙ ap (λ (p : ℕ). verdict (fault r) p) z
 
-  -- one or the other
-  record FirstFaulty (rs : List (List ℕ)) : Type 0 where
-    front : List (List ℕ)
-    bad : List ℕ
-    behind : List (List ℕ)
-    is : rs ≡ front ++ bad ∷ behind
-    free : Each Free front
-    faulty : ¬ (Free bad)
-
-  further : (r : List ℕ) (rs : List (List ℕ)) → Free r → FirstFaulty rs → FirstFaulty (r ∷ rs)
-  further r rs e t =
-      record {
-        front = r ∷ t .front;
-        bad = t .bad;
-        behind = t .behind;
-        is = ap (λ (l : List (List ℕ)). r ∷ l) (t .is);
-        free = (e, t .free);
-        faulty = t .faulty;
-      }
-
-  free-or : (rs : List (List ℕ)) → Each Free rs ⊎ FirstFaulty rs
-  free-or [] = inl tt
-  free-or (r ∷ rs) =
-      elim (ℕ-discrete (fault r) 0) [
-        | no n ↦ inr (record { front = []; bad = r; behind = rs; is = refl; free = tt; faulty = n })
-        | yes e ↦
-            elim (free-or rs) [
-              | inl a ↦ inl (e, a)
-              | inr t ↦ inr (further r rs e t)
-            ]
-      ]
-
 -- each, by what each of them is
-each-by : {A : Type 0} (P Q R : A → Type 0) → ((x : A) → P x → Q x → R x) → (xs : List A) → Each P xs → Each Q xs → Each R xs
+pub each-by : {A : Type 0} (P Q R : A → Type 0) → ((x : A) → P x → Q x → R x) → (xs : List A) → Each P xs → Each Q xs → Each R xs
 each-by P Q R f [] p q = tt
 each-by P Q R f (x ∷ xs) p q = (f x (p .0) (q .0), each-by P Q R f xs (p .1) (q .1))
 
@@ -163,7 +162,7 @@ module _ (u B : ℕ) (pos : 1 ≤ B) (small : u ≤ 1048576) where
   -- one or the other
   pub lists-or : (rs : List (List ℕ)) → Each Whole rs → Each (RecordSound u B) rs ⊎ ListRefused rs
   lists-or rs w =
-      elim (free-or u B rs) [
+      elim (first-or (Free u B) (λ r. ¬ (Free u B r)) kind rs) [
         | inl e ↦ inl (free-sound rs w e)
         | inr t ↦
             let w₂ : Each Whole (t .front ++ t .bad ∷ t .behind) = rw (t .is) at w in
@@ -175,7 +174,14 @@ module _ (u B : ℕ) (pos : 1 ≤ B) (small : u ≤ 1048576) where
               behind = t .behind;
               number = fault u B (t .bad);
               is = t .is;
-              sound = free-sound (t .front) (each-front Whole (t .front) (t .bad ∷ t .behind) w₂) (t .free);
-              refused = record-number u B (t .bad) (v .bytes) pos small (v .long) (fault u B (t .bad)) .0 (refl, t .faulty);
+              sound = free-sound (t .front) (each-front Whole (t .front) (t .bad ∷ t .behind) w₂) (t .good);
+              refused = record-number u B (t .bad) (v .bytes) pos small (v .long) (fault u B (t .bad)) .0 (refl, t .here);
             })
       ]
+    where
+      kind : (r : List ℕ) → Free u B r ⊎ (¬ (Free u B r))
+      kind r =
+          elim (ℕ-discrete (fault u B r) 0) [
+            | yes e ↦ inl e
+            | no n ↦ inr n
+          ]

@@ -9,7 +9,7 @@ use Rattle.paper.specs.Bytes.{u32At, u32Bytes}
 use Rattle.paper.specs.Index.{fromEnd, editionOf, uOf, blockLength, kOf, dOf}
 use Rattle.laws.proofs.Lists.{Each}
 use Rattle.laws.proofs.Parts.{AllBytes, all-drop}
-use Rattle.laws.proofs.Words.{word-bound, word-read, word-behind, word-is, length-word}
+use Rattle.laws.proofs.Words.{word-bound, word-read, word-behind, word-is, length-word, length-words}
 use Rattle.promises.proofs.IndexRows.{Word, words, Trailer, numbersOf, EndsIn, WellFormed}
 
 -- numbers, one at a time
@@ -21,14 +21,6 @@ words-none = refl
 words-next : (x : ℕ) (xs : List ℕ) → words (x ∷ xs) ≡ u32Bytes x ++ words xs
 unfolding flatten
 words-next x xs = refl
-
--- four bytes for each
-words-length : (xs : List ℕ) → length (words xs) ≡ 4 * length xs
-words-length [] = rw words-none
-words-length (x ∷ xs) =
-    let r = words-length xs in
-    let w = length-word x in
-    rw (words-next, length-append) (omega arith)
 
 -- what is written is read back
 words-read : (xs rest : List ℕ) (i : ℕ) → Each Word xs → i < length xs → u32At (words xs ++ rest) (4 * i) ≡ getD xs i 0
@@ -103,7 +95,7 @@ ending bs all l =
 -- The trailer that is written is the one that is read
 module _ (bs : List ℕ) (t : Trailer) (e : EndsIn bs t) where
   twenty : length (words (numbersOf t)) ≡ 20
-  twenty = words-length (numbersOf t)
+  twenty = length-words (numbersOf t)
 
   -- it has 24 bytes
   pub ends-length : length bs ≡ length (t .before) + 24

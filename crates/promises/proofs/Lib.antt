@@ -1,4 +1,5 @@
--- The promises: Promises, Questions and Searching state them, RecordRows, IndexRows and AskRows say the table's rows, and the other files prove.
+-- The promises: Promises, Questions, Searching, Writing, Closing and EndToEnd state them; RecordRows, IndexRows, AskRows, WriteRows and CloseRows say the
+-- table's rows, and EndToRuns the conditions from end to end; the other files prove.
 pub mod Promises
 pub mod RecordRows
 pub mod IndexRows
@@ -22,12 +23,13 @@ pub mod AcceptedLists
 pub mod OperationNumbers
 pub mod OperationAnswers
 pub mod UselessPrograms
+pub mod UselessAnswers
+pub mod ExampleRows
 pub mod Questions
 pub mod AskRows
 pub mod QuestionNumbers
 pub mod QuestionSlots
 pub mod QuestionAlike
-pub mod QuestionUseless
 pub mod QuestionExamples
 pub mod Searching
 pub mod SearchDoubling
@@ -40,3 +42,24 @@ pub mod SeekCodes
 pub mod SkipCost
 pub mod AnswerCost
 pub mod SkipOrder
+pub mod LengthAnswers
+pub mod Writing
+pub mod WriteRows
+pub mod WriteBytes
+pub mod WriteNumbers
+pub mod WriteAnswers
+pub mod WriteExamples
+pub mod Closing
+pub mod CloseRows
+pub mod CloseMade
+pub mod CloseLooks
+pub mod CloseNumbers
+pub mod CloseAnswers
+pub mod CloseExamples
+pub mod EndToEnd
+pub mod EndToRuns
+pub mod EndToWrites
+pub mod EndToIndex
+pub mod EndToAnswers
+pub mod EndToPackings
+pub mod EndToExamples

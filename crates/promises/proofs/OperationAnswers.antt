@@ -63,7 +63,7 @@ module _ (bs : List ℕ) (name : ℕ) where
   count-refusal n = rw (ne-eqb (nameFault bs name .number) 0 n)
 
   -- Lending: accepted, the record is lent
-  lent-record : nameFault bs name .number ≡ 0 → lent bs name ≡ recordOf bs name
+  pub lent-record : nameFault bs name .number ≡ 0 → lent bs name ≡ recordOf bs name
   unfolding lent
   lent-record ok = rw (eq-eqb (nameFault bs name .number) 0 ok)
 

@@ -2,7 +2,6 @@
 -- rest of the index does not matter to its answer. And the order in which the lists are gone through, which is one only.
 use Prim.Native.Nat.{ℕ, suc, _<_}
 use mathlib.Core.Path.{_≡_, refl, sym, ap, _∙_}
-use mathlib.Core.Bool.{true≢false}
 use mathlib.Core.Logic.{_⊎_, _↔_}
 use mathlib.Core.Logic._⊎_.{inl, inr}
 use mathlib.Core.List.{List, [], _∷_, map}
@@ -14,7 +13,7 @@ use Rattle.paper.specs.Index.{uOf, blockLength, kOf, recordOf, held}
 use Rattle.paper.specs.Look.{look}
 use Rattle.paper.specs.Question.{commonSlots, smallest, order}
 use Rattle.paper.specs.Ask.{named, roomNeeded, askFault, answerSlots, costs, askAnswer, askSlice}
-use Rattle.laws.proofs.Lists.{In, has-none, has-in, in-has, in-at, each-at, has-place, map-at}
+use Rattle.laws.proofs.Lists.{In, has-in, in-has, in-at, each-at, has-place, map-at}
 use Rattle.laws.proofs.Lists.In.{here, there}
 use Rattle.laws.proofs.Parts.{AllBytes}
 use Rattle.laws.proofs.Questions.{names-on}
@@ -183,14 +182,11 @@ module _ (counts : List ℕ) where
         | inl f ↦ let b : Before counts x x = rw (f ∙ sym e) at (first-before x xs r z i) in never x x b b
       ]
 
-  none : {X : Type 0} (z : ℕ) → In z [] → X
-  none z i = absurd (true≢false (sym (has-in z [] i) ∙ has-none z))
-
   -- two lists that rise so and have the same positions are one
   rising-one : (xs ys : List ℕ) → Rises xs → Rises ys → ((z : ℕ) → In z xs → In z ys) → ((z : ℕ) → In z ys → In z xs) → xs ≡ ys
   rising-one [] [] r s f g = refl
-  rising-one [] (y ∷ ys) r s f g = none y (g y (here refl))
-  rising-one (x ∷ xs) [] r s f g = none x (f x (here refl))
+  rising-one [] (y ∷ ys) r s f g = elim (g y (here refl)) [ ]
+  rising-one (x ∷ xs) [] r s f g = elim (f x (here refl)) [ ]
   rising-one (x ∷ xs) (y ∷ ys) r s f g =
       let t = rising-one xs ys (λ a b l h. r (suc a) (suc b) (omega arith) (omega arith)) (λ a b l h. s (suc a) (suc b) (omega arith) (omega arith))
       (behind x y xs ys e r f) (behind y x ys xs (sym e) s g) in

@@ -1,7 +1,6 @@
 -- Asking: what an accepted question has passed, and that a number and a place are given exactly when the rows of the table say so.
 use Prim.Native.Nat.{ℕ, _≤_, _<_}
 use mathlib.Core.Path.{_≡_, refl, sym, ap, subst₂, _∙_}
-use mathlib.Core.Bool.{Bool, true, false}
 use mathlib.Core.Logic.{_⊎_, _↔_}
 use mathlib.Core.Logic._⊎_.{inl, inr}
 use mathlib.Core.List.{List, [], _∷_, _++_, map}
@@ -20,15 +19,16 @@ use Rattle.paper.specs.Ask.{named, roomNeeded, askFault, askAnswer}
 use Rattle.paper.specs.declared.Verdict.{Verdict}
 use Rattle.laws.proofs.Lists.{In, has-in, in-has, in-at, Each, each-at, each-in, has-place}
 use Rattle.laws.proofs.Parts.{AllBytes}
-use Rattle.laws.proofs.Frames.{or-given, or-second, or-both}
+use Rattle.laws.proofs.Frames.{room-passed, or-given, or-second, or-both}
 use Rattle.laws.proofs.Links.{fourteen-other, fourteen, eleven-bad, twelve-small, twelve}
 use Rattle.laws.proofs.Questions.{named-many, counts-many, named-at, count-at, Good, names-on, good-passed}
 use Rattle.meaning.proofs.Rising.{Ascends}
 use Rattle.meaning.proofs.Orders.{order-least}
-use Rattle.meaning.proofs.Common.{same-slots, position-inside, ordered-at}
+use Rattle.meaning.proofs.Common.{same-test, same-slots, position-inside, ordered-at}
 use Rattle.promises.proofs.IndexRows.{Inside, Outside, Refused, WellFormed, ByTheTable}
 use Rattle.promises.proofs.IndexReads.{well-k}
 use Rattle.promises.proofs.IndexFrame.{within-passes, within-fails}
+use Rattle.promises.proofs.IndexLists.{First, first-or}
 use Rattle.promises.proofs.IndexLooks.{well-looked, not-zero, refused-given}
 use Rattle.promises.proofs.IndexJudged.{inside-or}
 use Rattle.promises.proofs.IndexNumbers.{by-the-table, Either, look-either}
@@ -52,34 +52,8 @@ abbrev pub Below : ℕ → List ℕ → Type 0
 Below k names = Each (λ (n : ℕ). n < k) names
 
 -- or some name is the first that is not
-record Unknown (k : ℕ) (names : List ℕ) : Type 0 where
-  front : List ℕ
-  name : ℕ
-  behind : List ℕ
-  is : names ≡ front ++ name ∷ behind
-  below : Below k front
-  past : k ≤ name
-
-names-or : (k : ℕ) (names : List ℕ) → Below k names ⊎ Unknown k names
-names-or k [] = inl tt
-names-or k (n ∷ names) =
-    elim (decLt n k) [
-      | no g ↦ inr (record { front = []; name = n; behind = names; is = refl; below = tt; past = omega arith })
-      | yes l ↦
-          elim (names-or k names) [
-            | inl b ↦ inl (l, b)
-            | inr w ↦
-                inr
-                (record {
-                  front = n ∷ w .front;
-                  name = w .name;
-                  behind = w .behind;
-                  is = ap (λ (l : List ℕ). n ∷ l) (w .is);
-                  below = (l, w .below);
-                  past = w .past;
-                })
-          ]
-    ]
+names-or : (k : ℕ) (names : List ℕ) → Below k names ⊎ First (λ (n : ℕ). n < k) (λ (n : ℕ). k ≤ n) names
+names-or k = first-or (λ n. n < k) (λ n. k ≤ n) (λ n. elim (decLt n k) [ yes l ↦ inl l | no g ↦ inr (omega arith) ])
 
 -- 11: the names in front are good, and then comes one that is not
 module _ (k name : ℕ) (behind : List ℕ) (past : k ≤ name) where
@@ -92,15 +66,6 @@ module _ (k name : ℕ) (behind : List ℕ) (past : k ≤ name) where
   names-bad rest front b =
       let n = length-append front (name ∷ behind) in
       sym (eleven-bad rest (front ++ name ∷ behind) k k (length front) refl (good-front front b) (omega arith))
-
--- 12: there is room
-room-passed : (room need : ℕ) → fault12 room need accepted .number ≡ 0 → need ≤ room
-unfolding fault12
-room-passed room need z =
-    elim (decLe need room) [
-      | yes l ↦ l
-      | no g ↦ absurd (let e = simp (lt-ltb room need (omega arith)) at z in omega arith)
-    ]
 
 -- An accepted question: all tests are passed
 pub record Passed (bs : List ℕ) (way : ℕ) (names : List ℕ) (room : ℕ) : Type 0 where
@@ -134,34 +99,34 @@ module _ (bs : List ℕ) (way : ℕ) (names : List ℕ) (room : ℕ) where
   passed z =
       let a = or-both (look bs) from14 z in
       let b = good-passed (kOf bs) way names from12 (a .1) in
-      record { looked = a .0; good = b .0; fits = room-passed room (roomNeeded bs way names) (b .1) }
+      record { looked = a .0; good = b .0; fits = room-passed room (roomNeeded bs way names) accepted (b .1) .0 }
 
 -- The room needed is the count of one of the lists named
 module _ (bs names : List ℕ) (some : 0 < length names) where
-  abbrev smallest-name : ℕ
+  -- of this name
+  abbrev pub smallest-name : ℕ
   smallest-name = getD names (getD (positions (named bs names)) 0 0) 0
 
-  smallest-place : getD (positions (named bs names)) 0 0 < length names
+  -- which stands in the question
+  pub smallest-place : getD (positions (named bs names)) 0 0 < length names
   smallest-place = rw named-many at (position-inside (named bs names) 0 (rw named-many some))
 
-  need-is : smallest (named bs names) ≡ countOf (recordOf bs smallest-name)
+  -- by what it counts
+  pub need-is : smallest (named bs names) ≡ countOf (recordOf bs smallest-name)
   unfolding smallest
   need-is = ap countOf (ordered-at (named bs names) 0 (rw named-many some) ∙ named-at bs names _ smallest-place)
 
   -- and of none with fewer
-  need-least : (i : ℕ) → i < length names → smallest (named bs names) ≤ countOf (recordOf bs (getD names i 0))
+  pub need-least : (i : ℕ) → i < length names → smallest (named bs names) ≤ countOf (recordOf bs (getD names i 0))
   need-least i l =
       let h = order-least (map countOf (named bs names)) i (rw counts-many l) in
       rw need-is (subst₂ _≤_ (count-at bs names _ smallest-place) (count-at bs names i l) h)
 
 -- Two rising lists of which each has what the other has are the same
 pub same-rising : (u v : ℕ) (xs ys : List ℕ) → Ascends u 0 xs → Ascends v 0 ys → ((x : ℕ) → In x xs ↔ In x ys) → xs ≡ ys
-same-rising u v xs ys a b h = same-slots u 0 v 0 xs ys a b λ x. go x (has x xs) (has x ys) refl refl
-  where
-    go : (x : ℕ) (s t : Bool) → has x xs ≡ s → has x ys ≡ t → s ≡ t
-    go x true t p q = sym (has-in x ys (h x .0 (in-has x xs p))) ∙ q
-    go x false true p q = sym p ∙ has-in x xs (h x .1 (in-has x ys q))
-    go x false false p q = refl
+same-rising u v xs ys a b h =
+    same-slots u 0 v 0 xs ys a b
+    λ x. same-test (has x xs) (has x ys) (λ p. has-in x ys (h x .0 (in-has x xs p))) (λ p. has-in x xs (h x .1 (in-has x ys p)))
 
 -- THE TABLE
 module _ (bs : List ℕ) (all : AllBytes bs) where
@@ -268,7 +233,7 @@ module _ (bs : List ℕ) (all : AllBytes bs) where
     by-names a =
         elim (names-or (a .well .trailer .k) names) [
           | inl b ↦ by-room (record { askable = a; below = b })
-          | inr u ↦ one-refuses 11 _ (unknown a (u .front) (u .name) (u .behind) (u .is) (u .below) (u .past))
+          | inr f ↦ one-refuses 11 _ (unknown a (f .front) (f .bad) (f .behind) (f .is) (f .good) (f .here))
         ]
 
     by-number : WellFormed bs → (way ≡ 0) ⊎ (way ≡ 1) → Asked

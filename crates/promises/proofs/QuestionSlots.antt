@@ -118,46 +118,50 @@ module _ (bs : List ℕ) (way : ℕ) (names before : List ℕ) where
     slice-take : take (askAnswer bs way names (length before) .count) (askSlice bs way names before) ≡ answerSlots bs names
     slice-take = rw (ask-count, slice-is) (take-append-seam (answerSlots bs names) _)
 
-  -- BY WHAT IS WRITTEN in the index, of any answer and slice that keep the promise
-  module _ (all : AllBytes bs) (a : AskAccepted bs way names (length before)) (answer : Answer) (after : List ℕ)
-      (m : MeetsAsk bs way names before answer after) where
+  -- BY ANY ANSWER and slice that keep the promise of an accepted question
+  module _ (answer : Answer) (after : List ℕ) (m : MeetsAsk bs way names before answer after) (ok : askAnswer bs way names (length before) .number ≡ 0) where
+    -- the slots of the answer stand at the front, as many as the count says
+    pub tells-slots : take (answer .count) after ≡ answerSlots bs names
+    tells-slots = rw (m .answers, m .leaves) (slice-take ok)
+
+    -- at most as many as there is room for
+    pub tells-room : answer .count ≤ length after
+    tells-room = rw (m .answers, m .leaves, ask-count ok, slice-length ok) (ask-room ok)
+
+    -- with 0 behind them
+    pub tells-behind : (i : ℕ) → answer .count ≤ i → i < length before → getD after i 0 ≡ 0
+    tells-behind i l h = rw (m .leaves) (slice-behind ok i (rw (m .answers) at l) h)
+
+    -- in a slice as long as it was
+    pub tells-length : length after ≡ length before
+    tells-length = rw (m .leaves) (slice-length ok)
+
+  -- and BY WHAT IS WRITTEN in the index, where no row refuses it
+  module _ (all : AllBytes bs) (a : AskAccepted bs way names (length before)) where
     abbrev w : WellFormed bs
     w = a .named .askable .well
 
-    accepted-number : askAnswer bs way names (length before) .number ≡ 0
+    -- it is accepted
+    pub accepted-number : askAnswer bs way names (length before) .number ≡ 0
     unfolding askAnswer
     accepted-number = ap (λ (v : Verdict). v .number) (ask-passes bs all way names (length before) a)
-
-    slots-are : take (answer .count) after ≡ answerSlots bs names
-    slots-are = rw (m .answers, m .leaves) (slice-take accepted-number)
 
     name-below : (n : ℕ) → In n names → n < w .trailer .k
     name-below n i = each-in (λ n. n < w .trailer .k) names (a .named .below) n i
 
-    -- the slots at the front are exactly those that the bytes of each record named hold
-    pub tells-exactly : (x : ℕ) → In x (take (answer .count) after) ↔ ((n : ℕ) → In n names → Stands w n x)
-    tells-exactly x =
-        let e = common-exactly bs x names (a .named .askable .number .0) in
-        rw slots-are (
-          λ i n j. well-holds bs all w n (name-below n j) x .0 (e .0 i n j),
-          λ h. e .1 (λ n j. well-holds bs all w n (name-below n j) x .1 (h n j)),
-        )
+    module _ (answer : Answer) (after : List ℕ) (m : MeetsAsk bs way names before answer after) where
+      -- the slots at the front are exactly those that the bytes of each record named hold
+      pub tells-exactly : (x : ℕ) → In x (take (answer .count) after) ↔ ((n : ℕ) → In n names → Stands w n x)
+      tells-exactly x =
+          let e = common-exactly bs x names (a .named .askable .number .0) in
+          rw (tells-slots answer after m accepted-number) (
+            λ i n j. well-holds bs all w n (name-below n j) x .0 (e .0 i n j),
+            λ h. e .1 (λ n j. well-holds bs all w n (name-below n j) x .1 (h n j)),
+          )
 
-    -- they rise in 1..u
-    pub tells-rise : Ascends (w .trailer .u) 0 (take (answer .count) after)
-    tells-rise = rw (slots-are, ← well-u bs w) (ask-rise accepted-number)
-
-    -- at most as many as there is room for
-    pub tells-room : answer .count ≤ length after
-    tells-room = rw (m .answers, m .leaves, ask-count accepted-number, slice-length accepted-number) (ask-room accepted-number)
-
-    -- with 0 behind them
-    pub tells-behind : (i : ℕ) → answer .count ≤ i → i < length before → getD after i 0 ≡ 0
-    tells-behind i l h = rw (m .leaves) (slice-behind accepted-number i (rw (m .answers) at l) h)
-
-    -- in a slice as long as it was
-    pub tells-length : length after ≡ length before
-    tells-length = rw (m .leaves) (slice-length accepted-number)
+      -- they rise in 1..u
+      pub tells-rise : Ascends (w .trailer .u) 0 (take (answer .count) after)
+      tells-rise = rw (tells-slots answer after m accepted-number, ← well-u bs w) (ask-rise accepted-number)
 
   -- REFUSED: no counts, and the slice as it was
   abbrev Nothing : Type 0

@@ -4,7 +4,7 @@
 -- `Printed` in QuestionExamples. Beside these a reader needs, of crate paper, what is answered (Ask) and what a list holds (Index). What a
 -- question by skips costs is promised in Searching. (`Before`, of two positions in the order of the lists, is said in Orders of crate meaning.)
 -- `AllBytes bs`: every number of bs is below 256. `In x xs`: x is one of the list xs. `Each P xs`: P holds of each of xs. `Ascends u p xs`: xs rises
--- strictly, above p and up to u.
+-- strictly, above p and up to u. `EachRow P rows`: P holds of each row of a table.
 use Prim.Native.Nat.{ℕ, _≤_, _<_}
 use mathlib.Core.Path.{_≡_, refl, sym, ap, _∙_}
 use mathlib.Core.Logic.{_↔_}
@@ -22,7 +22,7 @@ use Rattle.paper.specs.Close.{frameBytes}
 use Rattle.paper.specs.Program.{program}
 use Rattle.paper.specs.declared.Answer.{Answer}
 use Rattle.paper.proofs.Hex.{hex, index, slots1}
-use Rattle.paper.proofs.Rows.{Row, room}
+use Rattle.paper.proofs.Rows.{room}
 use Rattle.paper.proofs.Table.{table}
 use Rattle.paper.proofs.Readings.{readings, paper-rows, looking-rows, search-rows, asking-rows}
 use Rattle.laws.proofs.Lists.{In, Each}
@@ -30,14 +30,15 @@ use Rattle.laws.proofs.Lists.In.{here}
 use Rattle.laws.proofs.Parts.{AllBytes}
 use Rattle.meaning.proofs.Rising.{Ascends}
 use Rattle.promises.proofs.IndexRows.{WellFormed, startsFrom, ByTheTable}
+use Rattle.promises.proofs.UselessAnswers as useless
+use Rattle.promises.proofs.ExampleRows.{EachRow, labelled}
 use Rattle.promises.proofs.AskRows.{Stands, AskRefused, AskAccepted}
 use Rattle.promises.proofs.QuestionNumbers as numbers
 use Rattle.promises.proofs.QuestionSlots as slots
 use Rattle.promises.proofs.QuestionAlike as alike
 use Rattle.promises.proofs.QuestionAlike.{Covers, writtenFor, InOrder, names-cover, pairs-cover}
-use Rattle.promises.proofs.QuestionUseless as useless
 use Rattle.promises.proofs.QuestionExamples as examples
-use Rattle.promises.proofs.QuestionExamples.{labelled, Gives, Printed}
+use Rattle.promises.proofs.QuestionExamples.{Gives, Printed}
 
 -- of every question: the bytes of an index, the way, the names, and the slice as it is lent
 abbrev pub OfQuestions : (List ℕ → ℕ → List ℕ → List ℕ → Type 0) → Type 0
@@ -114,13 +115,14 @@ AskTells =
     × (length after ≡ length before)
 
 pub ask-tells : AskTells
-ask-tells bs way names before all a answer after m = (
-  slots.tells-exactly bs way names before all a answer after m,
-  slots.tells-rise bs way names before all a answer after m,
-  slots.tells-room bs way names before all a answer after m,
-  slots.tells-behind bs way names before all a answer after m,
-  slots.tells-length bs way names before all a answer after m,
-)
+ask-tells bs way names before all a answer after m =
+    let ok = slots.accepted-number bs way names before all a in (
+      slots.tells-exactly bs way names before all a answer after m,
+      slots.tells-rise bs way names before all a answer after m,
+      slots.tells-room bs way names before answer after m ok,
+      slots.tells-behind bs way names before answer after m ok,
+      slots.tells-length bs way names before answer after m ok,
+    )
 
 -- WHATEVER THE WAY, THE NAMES' ORDER AND REPEATS, AND THE PACKING
 
@@ -326,7 +328,7 @@ program-prints = examples.in-readings 107 .run _ _ _ refl
 
 -- So it is of every question, and of every text for the program, in the table of the paper's examples and in that of the further ones.
 abbrev pub TableAnswers : Type 0
-TableAnswers = Each (λ (r : ℕ × Row). Printed (r .1)) table × Each (λ (r : ℕ × Row). Printed (r .1)) readings
+TableAnswers = EachRow Printed table × EachRow Printed readings
 
 pub table-answers : TableAnswers
 table-answers = examples.tables-printed
@@ -345,14 +347,14 @@ abbrev pub AskNotTheSame : Type 0
 AskNotTheSame = (a b : Answer) (left : List ℕ) → ¬ (MeetsAsk index 1 (0 ∷ 1 ∷ []) (room 7) a left × MeetsAsk index 1 (1 ∷ []) (room 7) b left)
 
 pub ask-not-the-same : AskNotTheSame
-ask-not-the-same = useless.same-fails (paper-answers .3) (paper-answers .4) λ e. let z : _≡_ {A = ℕ} 5 3 = e in omega arith
+ask-not-the-same = useless.same-leaving-fails (paper-answers .3) (paper-answers .4) 0 λ e. let z : _≡_ {A = ℕ} 5 3 = e in omega arith
 
 -- One that writes nothing breaks it at T1.
 abbrev pub AskNotIdle : Type 0
 AskNotIdle = (answer : Answer) → ¬ (MeetsAsk index 1 (0 ∷ 1 ∷ []) (room 8) answer (room 8))
 
 pub ask-not-idle : AskNotIdle
-ask-not-idle = useless.idle-fails (paper-answers .0) λ e. let z : _≡_ {A = ℕ} 9 5 = e in omega arith
+ask-not-idle = useless.leaving-fails (paper-answers .0) 0 (room 8) λ e. let z : _≡_ {A = ℕ} 9 5 = e in omega arith
 
 -- One that goes by one of the lists alone breaks it: at T1 if slot 3 is left, which list 1 holds and list 0 lacks, or slot 1, which list 0 holds and
 -- list 1 lacks; and at lists 1, 0 and 0 if all seven slots of list 1 are left.
@@ -377,11 +379,11 @@ abbrev pub AskNotOtherLooks : Type 0
 AskNotOtherLooks = (answer : Answer) (left : List ℕ) → ¬ (answer .looks ≡ 9) → ¬ (MeetsAsk index 1 (0 ∷ 1 ∷ []) (room 8) answer left)
 
 pub ask-not-other-looks : AskNotOtherLooks
-ask-not-other-looks = useless.looks-fail (paper-answers .0)
+ask-not-other-looks = useless.number-fails (paper-answers .0) 3
 
 -- One that reports codes of its own breaks it at T1, where they are 14.
 abbrev pub AskNotOtherCodes : Type 0
 AskNotOtherCodes = (answer : Answer) (left : List ℕ) → ¬ (answer .codes ≡ 14) → ¬ (MeetsAsk index 1 (0 ∷ 1 ∷ []) (room 8) answer left)
 
 pub ask-not-other-codes : AskNotOtherCodes
-ask-not-other-codes = useless.codes-fail (paper-answers .0)
+ask-not-other-codes = useless.number-fails (paper-answers .0) 4

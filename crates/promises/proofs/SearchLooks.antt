@@ -49,12 +49,8 @@ record Spread (lo hi : ℕ) (is : List ℕ) : Type 0 where
   inside : (i : ℕ) → In i is → (lo < i) × (i < hi)
   once : Once is
 
--- nothing is in no list
-none-in : (i : ℕ) → ¬ (In i [])
-none-in i k = elim k [ ]
-
 spread-none : (lo hi : ℕ) → Spread lo hi []
-spread-none lo hi = record { inside = λ i k. absurd (none-in i k); once = tt }
+spread-none lo hi = record { inside = λ i k. elim k [ ]; once = tt }
 
 -- a wider range
 spread-wider : (a b lo hi : ℕ) (is : List ℕ) → a ≤ lo → hi ≤ b → Spread lo hi is → Spread a b is

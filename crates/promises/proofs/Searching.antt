@@ -22,6 +22,7 @@ use Rattle.laws.proofs.Searches.{halve-one, halve-up, halve-down, search-from, 
 use Rattle.meaning.proofs.Rising.{Ascends}
 use Rattle.meaning.proofs.Walking.{walk-keeps}
 use Rattle.meaning.proofs.Charging.{plain-costs}
+use Rattle.promises.proofs.QuestionAlike.{InOrder}
 use Rattle.promises.proofs.SearchDoubling.{doublings, lastGood, sees, GoodSoFar, search-ends, search-past-m, search-fails}
 use Rattle.promises.proofs.SearchLooks.{Agree, Once, search-same, search-inside, search-once}
 use Rattle.promises.proofs.SearchFinds as finds
@@ -33,7 +34,6 @@ use Rattle.promises.proofs.SeekCodes.{below, blockOf, seek-codes, try-c
 use Rattle.promises.proofs.SkipCost.{searchesIn, seenIn, readIn, AtMost}
 use Rattle.promises.proofs.AnswerCost.{looksCharged, codesCharged, visitsOf}
 use Rattle.promises.proofs.AnswerCost as answer
-use Rattle.promises.proofs.QuestionAlike.{InOrder}
 use Rattle.promises.proofs.SkipOrder.{sizes, visitsIn}
 use Rattle.promises.proofs.SkipOrder as ordered
 

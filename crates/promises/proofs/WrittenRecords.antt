@@ -69,7 +69,7 @@ module _ (u B c : ℕ) (xs : List ℕ) (pos : 1 ≤ B) (within : c ≤ u) (a : A
   bitsFor = bitBytes (λ x. has x (upTo c xs)) 1 (bitLength c)
 
   -- it has its own cut, bits and slots as a witness
-  written-sound : RecordSound u B (encode B c xs)
+  unfoldable pub written-sound : RecordSound u B (encode B c xs)
   unfolding encode encoded
   written-sound =
       record {

@@ -14,7 +14,7 @@ use Rattle.paper.specs.Write.{inBlocks, gapCodes, blockCodes, skipEntries}
 use Rattle.laws.proofs.Parts.{AllBytes, join-4, no-length, all-none, all-join}
 use Rattle.laws.proofs.Words.{word-bound}
 use Rattle.laws.proofs.Rounding.{RoundsUp, rounds-zero, rounds-some, rounds-less, rounds-pos}
-use Rattle.laws.proofs.Codes.{code-length, all-code}
+use Rattle.laws.proofs.Codes.{gaps-few, all-code}
 use Rattle.laws.proofs.Tails.{tail-offset, tail-blocks}
 use Rattle.laws.proofs.Entries.{entry-offset, entry-is}
 use Rattle.laws.proofs.Cutting.{blocks-less}
@@ -64,18 +64,10 @@ module _ (B : ℕ) where
   )
 
 -- Sizes of what is written: three bytes at most for each code
-gaps-length : (p : ℕ) (xs : List ℕ) → length (gapCodes p xs) ≤ 3 * length xs
-unfolding gapCodes
-gaps-length p [] = omega arith
-gaps-length p (x ∷ xs) =
-    let r = gaps-length x xs in
-    let c = code-length (x - p - 1) .few in
-    rw length-append (omega arith)
-
 block-length : (b : List ℕ) → length (blockCodes b) ≤ 3 * length b
 unfolding blockCodes
 block-length [] = omega arith
-block-length (x ∷ xs) = let r = gaps-length x xs in omega arith
+block-length (x ∷ xs) = let r = gaps-few x xs in omega arith
 
 -- three bytes at most for each slot
 pub codes-length : (bl : List (List ℕ)) → length (allCodes bl) ≤ 3 * length (flatten bl)

@@ -15,7 +15,7 @@ use words::ones_to;
 use words::u32_at;
 
 // x / y, rounded up. The sum is taken in 64 bits, where it cannot wrap.
-fn ceil(x: u32, y: u32) -> usize
+pub fn ceil(x: u32, y: u32) -> usize
     requires { ⌜ 0 < y ⌝ }
     ensures { λ r. ⌜ (r ≡ ceilDiv x y) × (r ≤ x) ⌝ }
 {

@@ -1,6 +1,6 @@
 -- Asking: one law for each way out. What the tests on the way say, all refusals but 12 and then 12, is what the definition says.
 use Prim.Native.Nat.{ℕ, _≤_, _<_}
-use mathlib.Core.Path.{_≡_, refl, sym, ap, _∙_}
+use mathlib.Core.Path.{_≡_, refl, sym, _∙_}
 use mathlib.Core.List.{List}
 use native.Mathlib.Decide.{ℕ-discrete}
 use native.Mathlib.Omega.{arith}
@@ -14,8 +14,8 @@ use Rattle.paper.specs.Ask.{named, roomNeeded, askFault, askAnswer, askSlice, M
 use Rattle.paper.specs.declared.Verdict.{Verdict}
 use Rattle.paper.specs.declared.Answer.{Answer}
 use Rattle.laws.proofs.Frames.{or-first, or-second, or-both}
-use Rattle.laws.proofs.Links.{twelve-small, twelve}
-use Rattle.laws.proofs.Questions.{Good, good-on, good-passed, bad-stays}
+use Rattle.laws.proofs.Links.{link-bad, link-names, twelve-small, twelve}
+use Rattle.laws.proofs.Questions.{Good, good-on, good-passed}
 use Rattle.names.specs.Asked.{Asked}
 use Rattle.question.specs.Answered.{Answers}
 use Rattle.slots.specs.Unroomed.{unroomed, refusal}
@@ -38,9 +38,7 @@ stays : (bs : List ℕ) (way : ℕ) (names : List ℕ) (size : ℕ) (v : Verdict
     → askFault bs way names size ≡ v
 unfolding askFault unroomed
 stays bs way names size v is n (no g) = or-first _ _ g ∙ sym (is ∙ or-first _ _ g)
-stays bs way names size v is n (yes z) =
-    let e = is ∙ or-second _ _ z in
-    or-second _ _ z ∙ bad-stays (kOf bs) way names accepted _ refl (λ h. n (ap (λ (w : Verdict). w .number) e ∙ h)) ∙ sym e
+stays bs way names size v is n (yes z) = or-second _ _ z ∙ link-bad _ (link-names (kOf bs) way names) v (is ∙ or-second _ _ z) _ n
 
 -- the answer
 module _ (bs : List ℕ) (way : ℕ) (names before : List ℕ) where

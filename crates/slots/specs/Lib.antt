@@ -1,1 +1,2 @@
+pub mod Unmade
 pub mod Unroomed

@@ -6,17 +6,27 @@ ghost use Rattle.paper.specs.Bytes as bytes;
 ghost use Rattle.paper.specs.Refusal.{verdict, accepted, fault16};
 ghost use Rattle.paper.specs.Look.{MeetsLook};
 ghost use Rattle.paper.specs.Ask.{MeetsAsk};
+ghost use Rattle.paper.specs.Close.{MeetsClose};
 ghost use Rattle.paper.specs.OneList.{nameFault, MeetsTest, MeetsCount, MeetsLend, MeetsPart};
+ghost use Rattle.paper.specs.Write.{MeetsWrite};
+ghost use Rattle.slots.specs.Unmade.{unmade};
 ghost use Rattle.slots.specs.Unroomed.{unroomed, refusal};
+use closing::check_close;
+use closing::closed_size;
+use closing::put_frame;
 use frame::check_frame;
 use frame::check_lists;
 use frame::from_end;
 use frame::start_of;
+use pack::check_write;
+use pack::lay_out;
+use pack::put_record;
 use paper::Answer;
 use paper::Counted;
 use paper::Part;
 use paper::Tested;
 use paper::Verdict;
+use paper::Written;
 use question::answer_by_skips;
 use question::answer_plainly;
 use question::check_names;
@@ -202,4 +212,56 @@ pub fn ask(index: &[u8], way: u32, names: &[u32], slots: &mut [u32]) -> Answer
         return answer_by_skips(index, names, &order, slots);
     }
     answer_plainly(index, names, &order, slots)
+}
+
+// The answer to a writing or a closing that is refused: nothing has been made.
+fn unwritten(number: u32, place: u32) -> Written
+    ensures { λ r. ⌜ r ≡ unmade number place ⌝ }
+{
+    Written {
+        number,
+        place,
+        length: 0,
+    }
+}
+
+// Writes the record of slots with a cut to the front of `room`; the bytes behind it stay. It is measured first, and nothing is written before
+// every refusal is ruled out.
+pub fn write(u: u32, block: u32, cut: u32, slots: &[u32], room: &mut [u8]) -> Written
+    ensures { λ r. ⌜ MeetsWrite u block cut (now (slots .entry)) (now (room .entry)) r (now (room .exit)) ⌝ }
+{
+    let fault = check_write(u, block, cut, slots);
+    if fault.number != 0 {
+        return unwritten(fault.number, fault.place);
+    }
+    let lay = lay_out(block, cut, slots);
+    let end = lay.end;
+    let length = end as u32;
+    if room.len() < end {
+        return unwritten(12, length);
+    }
+    put_record(room, lay, block, cut, slots);
+    Written {
+        number: 0,
+        place: 0,
+        length,
+    }
+}
+
+// Closes an index whose records lie in the first `total` bytes of `room`: directory and trailer are written behind them. Nothing is written
+// before every refusal is ruled out.
+pub fn close(room: &mut [u8], u: u32, block: u32, total: u32, starts: &[u32]) -> Written
+    ensures { λ r. ⌜ MeetsClose (now (room .entry)) u block total (now (starts .entry)) r (now (room .exit)) ⌝ }
+{
+    let seen = check_close(&room[..], u, block, total, starts);
+    if seen.number != 0 {
+        return unwritten(seen.number, seen.place);
+    }
+    put_frame(room, u, block, total, starts);
+    let size = closed_size(total, starts) as u32;
+    Written {
+        number: 0,
+        place: 0,
+        length: size,
+    }
 }

@@ -1,9 +1,11 @@
-// Numbers of four bytes, and the bits of a bit part: one bit, and how many are set up to a cut.
+// Numbers of four bytes, read and written, and the bits of a bit part: one bit, setting one, and how many are set up to a cut.
 ghost use mathlib.Core.Path.{_≡_};
 ghost use Prim.Native.Nat.{_+_, _*_, _≤_, _<_};
 ghost use lib.ListN.{length};
-ghost use Rattle.paper.specs.Bytes.{byteAt, u32At};
+ghost use lib.Seq.{sets};
+ghost use Rattle.paper.specs.Bytes.{byteAt, u32At, u32Bytes};
 ghost use Rattle.paper.specs.Record.{bitAt, slotsToCut};
+ghost use Rattle.words.specs.Marks.{withBit};
 ghost use Rattle.words.specs.Ones.{topOnes};
 
 // The byte at i, as a wide number. Its bound is promised too, so that sums of bytes are seen to fit.
@@ -22,6 +24,17 @@ pub fn u32_at(s: &[u8], at: usize) -> u32
     byte(s, at) + 256 * byte(s, at + 1) + 65536 * byte(s, at + 2) + 16777216 * byte(s, at + 3)
 }
 
+// Writes the four bytes of x from `at` on, the lowest byte first.
+pub fn put_u32(s: &mut [u8], at: usize, x: u32)
+    requires { ⌜ at + 4 ≤ length (now s) ⌝ }
+    ensures { λ _. ⌜ now (s .exit) ≡ sets (now (s .entry)) at (u32Bytes x) ⌝ }
+{
+    s[at] = (x % 256) as u8;
+    s[at + 1] = (x / 256 % 256) as u8;
+    s[at + 2] = (x / 65536 % 256) as u8;
+    s[at + 3] = (x / 16777216 % 256) as u8;
+}
+
 // Whether bit x is set. Bits are counted from 1, from the top of each byte down.
 pub fn bit(bits: &[u8], x: u32) -> bool
     requires { ⌜ (0 < x) × (x ≤ 8 * length (now bits)) ⌝ }
@@ -30,6 +43,16 @@ pub fn bit(bits: &[u8], x: u32) -> bool
     let before = x - 1;
     let at = (before / 8) as usize;
     (bits[at] >> (7 - before % 8)) % 2 == 1
+}
+
+// Sets bit x, and leaves every other bit as it is.
+pub fn put_bit(bits: &mut [u8], x: u32)
+    requires { ⌜ (0 < x) × (x ≤ 8 * length (now bits)) ⌝ }
+    ensures { λ _. ⌜ now (bits .exit) ≡ withBit (now (bits .entry)) x ⌝ }
+{
+    let before = x - 1;
+    let at = (before / 8) as usize;
+    bits[at] = bits[at] | (1 << (7 - before % 8));
 }
 
 // How many of the top p bits of a byte are set.

@@ -1,13 +1,14 @@
-use borrow.Author.Needs.{needs}
 use Prim.Native.Nat.{_-_}
+use Rattle.paper.specs.Index.{startOf}
 use Rattle.paper.specs.Look.{inLists}
 use Rattle.frame.proofs.Steps.{Head, directory-there, u-there, B-there, k-there, block-some, lists-begin, lists-done, part-start, part-end-in, record-long, lists-fault, lists-turn}
+use borrow.Author.Needs.{needs}
 use Rattle.frame.proofs.check_lists.Statement.{statement}
 use Rattle.frame.proofs.check_lists.Tie as tie
 
 abbrev Inv-loop : tie.InvT-loop
 Inv-loop index u block k from₀ i₀ from i =
-    Head index u block k (inLists index) from i
+    Head index (startOf index) u block k (inLists index) from i
 
 abbrev μ-loop : tie.MeasureT-loop
 μ-loop index u block k from₀ i₀ from i = k - i

@@ -2,7 +2,7 @@ use Prim.Native.Nat.{_-_}
 use mathlib.Core.List.{_++_}
 use lib.ListN.{length, take, replicate}
 use borrow.Author.Needs.{needs}
-use Rattle.gather.proofs.Clearing.{Cleared, none-left, one-more}
+use Rattle.laws.proofs.Clearing.{Cleared, none-left, one-more}
 use Rattle.gather.proofs.clear.Statement.{statement}
 use Rattle.gather.proofs.clear.Tie as tie
 
