@@ -3,8 +3,8 @@ use Prim.Native.Nat.{ℕ, _+_, _-_, _*_, _≤_, _<_}
 use mathlib.Core.Path.{_≡_, refl, sym, ap, _∙_}
 use mathlib.Core.List.{List, _++_, append-assoc}
 use native.Mathlib.Omega.{arith}
-use lib.ListN.{length, take, drop, length-append}
-use lib.Seq.{sets, sets-eq, length-sets, take-at, drop-at, drop-drop}
+use lib.ListN.{length, take, drop, length-append, length-take, length-drop}
+use lib.Seq.{sets, sets-eq, length-sets, take-at, drop-at, drop-drop, length-take-le}
 use Rattle.paper.specs.Lists.{has, onFront}
 use Rattle.paper.specs.Bytes.{u32Bytes, part, ceilDiv}
 use Rattle.paper.specs.Tail.{blockCount}
@@ -172,6 +172,20 @@ module _ {B cut : ℕ} {slots : List ℕ} (p : Judged B cut slots) {lay : Layout
     pub head-room : 12 ≤ length room
     head-room = omega (arith, from-after, to-after, end-after)
 
+    -- the codes have theirs behind the entries, also where bits stand from 12 on, as many bytes of them as were lent for it
+    pub codes-there : (room₁ : List ℕ) → length room₁ ≡ length room → (k : ℕ) (bits low : List ℕ) → bits ≡ bitsFor low (length (take k (drop 12 room₁)))
+        → lay .codes + length (tailCodes B (part slots (lay .low) (length slots))) ≤ length (take 12 room₁ ++ (bits ++ drop k (drop 12 room₁)))
+    unfolding bitsFor
+    codes-there room₁ kept k bits low is =
+        let m = ap length is ∙ bits-length (λ x. has x low) (length (take k (drop 12 room₁))) 1 in
+        let n = length-take k (drop 12 room₁) in
+        let a = length-append (take 12 room₁) (bits ++ drop k (drop 12 room₁)) in
+        let b = length-append bits (drop k (drop 12 room₁)) in
+        let t = length-take-le 12 room₁ (omega (arith, head-room)) in
+        let c = length-drop k (drop 12 room₁) in
+        let d = length-drop 12 room₁ in
+        rw (high-are p (lay .low) (l .low)) (omega (arith, l .end))
+
     -- and so have the bits, in the room as the head has left it
     module _ (room₁ : List ℕ) (kept : length room₁ ≡ length room) where
       pub bits-room : lay .entries ≤ length room₁
@@ -212,12 +226,6 @@ module _ {B cut : ℕ} {slots : List ℕ} (p : Judged B cut slots) {lay : Layout
             ∙ ap (λ (r : List ℕ). take 12 room₁ ++ bits ++ r) (drop-drop (lay .entries - 12) 12 room₁ ∙ ap (λ (m : ℕ). drop (12 + m) room₁) n)
             ∙ sym (sets-eq bits room₁ 12 (omega (arith, from-after)))
 
-        -- the codes have their room behind the entries
-        pub codes-there : lay .codes + length (tailCodes B (part slots (lay .low) (length slots))) ≤ length (marked bits)
-        codes-there =
-            let e = l .end in
-            rw (high-are p (lay .low) (l .low), marked-is, length-sets) (omega (arith, kept))
-
         -- all parts are written, and the room has the record at its front
         pub assembled : room₁ ≡ sets room 0 (u32Bytes cut ++ u32Bytes (length slots - lay .low) ++ u32Bytes (lay .end - lay .codes)) → (room₂ : List ℕ)
             → room₂
@@ -239,4 +247,4 @@ module _ {B cut : ℕ} {slots : List ℕ} (p : Judged B cut slots) {lay : Layout
             ∙ sets-front (encode B cut slots) room (omega (arith, l .size))
 
 -- what writing one asks for
-pub ruleset placings = (partings, end-after, codes-word, from-after, head-room, bits-room, bits-rise, bits-rise-all, entries-there, codes-there)
+pub ruleset placings = (partings, end-after, codes-word, from-after, head-room, bits-room, bits-rise, bits-rise-all, entries-there)

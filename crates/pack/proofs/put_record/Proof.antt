@@ -57,11 +57,12 @@ put-tail-requires c κs =
     let start = head .before .before .before .before .before in
     let plan = start .pre .0 in
     let lay = start .pre .1 in
-    let kept : length (head .put-head .last .0) ≡ length (start .args .room .now) = search needs in (
+    let kept : length (head .put-head .last .0) ≡ length (start .args .room .now) = search needs in
+    let there = codes-there plan lay (start .args .room .now) (start .pre .2) (head .put-head .last .0) kept in (
       plan .some,
       high-rise plan _ (lay .low),
       entries-there plan lay,
-      codes-there plan lay (start .args .room .now) (start .pre .2) (head .put-head .last .0) kept (bits .put-bits .last .0) (bits .put-bits .ensures),
+      search (there, bits .put-bits .ensures),
     )
 
 same-length : tie.Need-same-length
