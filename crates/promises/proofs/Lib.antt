@@ -1,5 +1,5 @@
--- The promises: Promises, Questions, Searching, Writing, Closing and EndToEnd state them; RecordRows, IndexRows, AskRows, WriteRows and CloseRows say the
--- table's rows, and EndToRuns the conditions from end to end; the other files prove.
+-- The promises: Promises, Questions, Searching, Writing, Closing, EndToEnd and Lines state them; RecordRows, IndexRows, AskRows, WriteRows and CloseRows say
+-- the table's rows, EndToRuns the conditions from end to end, and LineTexts what a text spells; the other files prove.
 pub mod Promises
 pub mod RecordRows
 pub mod IndexRows
@@ -63,3 +63,6 @@ pub mod EndToIndex
 pub mod EndToAnswers
 pub mod EndToPackings
 pub mod EndToExamples
+pub mod Lines
+pub mod LineTexts
+pub mod LineReads
