@@ -11,6 +11,7 @@ mod bytes;
 pub mod cases;
 mod close;
 mod code;
+pub mod examples;
 mod look;
 mod program;
 mod question;

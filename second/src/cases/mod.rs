@@ -8,7 +8,7 @@
 mod asking;
 mod looking;
 mod others;
-mod shape;
+pub(crate) mod shape;
 
 use crate::random::Random;
 use crate::{ask, close, count, lend, look, part, program, read_line, test, write};

@@ -1,0 +1,3 @@
+// What the program of examples is written with: lines of output, and indexes made for an example.
+pub mod make;
+pub mod show;

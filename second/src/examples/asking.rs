@@ -1,0 +1,98 @@
+//! Examples of questions, of the operations on one list, and of the search.
+
+use super::{paper, Page};
+use crate::cases::shape::{index, record, with_byte, PAPER_0};
+use crate::look::open;
+use crate::search::search;
+
+const PLAIN: u32 = 0;
+const SKIPS: u32 = 1;
+/// Slots for which there is room where an example says nothing else.
+const ROOM: usize = 64;
+
+/// Questions to the paper's index.
+pub fn questions(page: &mut Page) {
+    let p = paper();
+    let names: Vec<u32> = (0..17).map(|i| i % 2).collect();
+    page.ask("16 names", &p, SKIPS, &names[..16], ROOM);
+    page.ask("17 names", &p, SKIPS, &names, ROOM);
+    page.ask("17 names, way 2", &p, 2, &names, ROOM);
+    page.ask("way 2", &p, 2, &[0, 1], ROOM);
+    page.ask("no names, way 0", &p, PLAIN, &[], ROOM);
+    page.ask("names 0 2 1 2", &p, SKIPS, &[0, 2, 1, 2], ROOM);
+    page.ask("room 6, way 0", &p, PLAIN, &[0, 1], 6);
+    page.ask("room 0, name 1", &p, SKIPS, &[1], 0);
+    page.ask("names 0 1, way 0", &p, PLAIN, &[0, 1], ROOM);
+    page.ask("names 1 0 0", &p, SKIPS, &[1, 0, 0], ROOM);
+    page.ask("names 1 1", &p, SKIPS, &[1, 1], ROOM);
+}
+
+/// Testing, counting and lending, on the paper's index and on a damaged one.
+pub fn single_lists(page: &mut Page) {
+    let p = paper();
+    for (slot, list) in [(32, 0), (0, 0), (33, 0), (30, 1), (1, 2)] {
+        page.test(&format!("slot {slot} in list {list}"), &p, list, slot);
+    }
+    for list in 0..3 {
+        page.count(&format!("count list {list}"), &p, list);
+    }
+    for list in 0..3 {
+        page.part(&format!("part list {list}"), &p, list);
+    }
+    let damaged = with_byte(&p, 54, 0x81);
+    page.test("byte 54 is 81, slot 5", &damaged, 0, 5);
+    page.count("byte 54 is 81, count list 1", &damaged, 1);
+}
+
+/// The search alone: where every entry is its own position, and in list 0 of
+/// the paper's index.
+pub fn searches(page: &mut Page) {
+    let position = |i: u32| i;
+    for x in [4, 5, 6] {
+        let found = search(position, 6, 0, x);
+        page.found(&format!("six entries, x {x}"), found);
+    }
+    for (finger, x) in [(0, 13), (5, 30), (0, 40), (5, 5), (40, 40)] {
+        let found = search(position, 40, finger, x);
+        page.found(&format!("forty entries, finger {finger}, x {x}"), found);
+    }
+
+    let p = paper();
+    let Ok(opened) = open(&p) else {
+        unreachable!("the paper's index is sound");
+    };
+    let list = &opened.records[0];
+    let entry = |i: u32| list.first(i as usize - 1);
+    for x in [7, 8, 18] {
+        let found = search(entry, list.blocks() as u32, 0, x);
+        page.found(&format!("list 0, x {x}"), found);
+    }
+}
+
+/// Questions to lists made for showing one rule each.
+pub fn made_lists(page: &mut Page) {
+    let seven = record(32, 4, 0, &[7]);
+    let sought = index(32, 4, &[record(32, 4, 0, &PAPER_0), seven]);
+    page.ask("7 sought in list 0", &sought, SKIPS, &[0, 1], ROOM);
+
+    let first = record(32, 1, 0, &[7, 8, 9, 10]);
+    let second = record(32, 1, 0, &[1, 2, 3, 4]);
+    let ties = index(32, 1, &[first, second]);
+    page.ask("ties 0 1", &ties, SKIPS, &[0, 1], ROOM);
+    page.ask("ties 1 0", &ties, SKIPS, &[1, 0], ROOM);
+
+    let all: Vec<u32> = (1..=26).collect();
+    let even: Vec<u32> = (2..=24).step_by(2).collect();
+    let lists: [&[u32]; 3] = [&[4, 9, 16, 25], &all, &even];
+    let rising = index(32, 2, &lists.map(|slots| record(32, 2, 0, slots)));
+    page.ask("rising counts", &rising, SKIPS, &[0, 1, 2], ROOM);
+    let label = "rising counts, names 2 1 0";
+    page.ask(label, &rising, SKIPS, &[2, 1, 0], ROOM);
+
+    let clean = record(32, 2, 11, &[2, 3, 11, 13, 14, 20, 22, 31]);
+    let dirty = with_byte(&clean, 13, clean[13] | 0x1F);
+    let few = record(32, 2, 0, &[3, 11, 12, 13, 22]);
+    let rubbish = index(32, 2, &[few, dirty]);
+    page.ask("rubbish behind the cut", &rubbish, SKIPS, &[0, 1], ROOM);
+    page.count("rubbish behind the cut, count list 1", &rubbish, 1);
+}

@@ -1,0 +1,227 @@
+//! The lines of the worked examples, held against values that were not taken
+//! from a run: they stand in the paper, were worked out beside it, or follow
+//! from its rules in the few steps noted here.
+
+use crate::tools::paper;
+use second::examples;
+use std::collections::{BTreeMap, BTreeSet};
+use std::process::Command;
+
+/// Each example's values must read so.
+#[track_caller]
+fn says(expected: &[(&str, &str)]) {
+    let lines = examples::all();
+    let given: BTreeMap<&str, &str> = lines
+        .iter()
+        .map(|line| line.split_once(": ").expect("a colon"))
+        .collect();
+    for (label, values) in expected {
+        assert_eq!(given.get(label), Some(values), "{label}");
+    }
+}
+
+#[test]
+fn they_are_about_the_papers_index() {
+    assert_eq!(examples::paper(), paper());
+}
+
+#[test]
+fn each_has_its_own_label() {
+    let lines = examples::all();
+    let labels: BTreeSet<&str> = lines
+        .iter()
+        .map(|line| line.split_once(": ").expect("a colon").0)
+        .collect();
+    assert_eq!(lines.len(), 97);
+    assert_eq!(labels.len(), 97);
+}
+
+#[test]
+fn the_program_prints_them() {
+    let ran = Command::new(env!("CARGO_BIN_EXE_worked")).output().unwrap();
+    let expected: String = examples::all()
+        .iter()
+        .map(|line| format!("{line}\n"))
+        .collect();
+    assert_eq!(String::from_utf8(ran.stdout).unwrap(), expected);
+}
+
+#[test]
+fn sizes_in_the_paper() {
+    says(&[
+        ("look P", "0 0"),
+        ("look nothing", "1 0"),
+        ("look 23 bytes", "1 0"),
+        ("u 1048576", "0 0"),
+        ("u 1048577", "4 0"),
+        ("u 0", "4 0"),
+        ("B 128", "0 0"),
+        ("B 129", "4 0"),
+        ("B 0", "4 0"),
+        ("k 0", "4 0"),
+        ("edition 2", "3 0"),
+        ("tag slot", "2 0"),
+        ("D FFFFFFFF", "5 0"),
+        ("first start 1", "5 0"),
+        ("falling starts", "5 0"),
+        ("short record", "5 0"),
+    ]);
+}
+
+#[test]
+fn questions_in_the_paper() {
+    says(&[
+        ("17 names", "10 0 0 0 0"),
+        ("17 names, way 2", "14 0 0 0 0"),
+        ("way 2", "14 0 0 0 0"),
+        ("no names, way 0", "10 0 0 0 0"),
+        ("names 0 2 1 2", "11 1 0 0 0"),
+        ("room 6, way 0", "12 7 0 0 0"),
+        ("room 0, name 1", "12 7 0 0 0"),
+        ("names 0 1, way 0", "0 0 5 0 0 5 12 16 26 30"),
+        ("names 1 0 0", "0 0 5 17 25 5 12 16 26 30"),
+        ("names 1 1", "0 0 7 1 3 3 5 12 16 26 30 31"),
+    ]);
+}
+
+#[test]
+fn sixteen_names() {
+    // The start is list 1's first position. Its other seven cost 1 look and 3
+    // codes each; then list 0 costs 9 and 14 with seven candidates, and 8 and
+    // 11 at each of its other seven positions with the five that are left.
+    let looks = 7 + 9 + 7 * 8;
+    let codes = 7 * 3 + 14 + 7 * 11;
+    let values = format!("0 0 5 {looks} {codes} 5 12 16 26 30");
+    says(&[("16 names", &values)]);
+}
+
+#[test]
+fn single_lists_of_the_paper() {
+    says(&[
+        ("slot 32 in list 0", "0 0 0"),
+        ("slot 0 in list 0", "16 0 0"),
+        ("slot 33 in list 0", "16 0 0"),
+        ("slot 30 in list 1", "0 0 1"),
+        ("slot 1 in list 2", "11 0 0"),
+        ("count list 0", "0 0 15"),
+        ("count list 1", "0 0 7"),
+        ("count list 2", "11 0 0"),
+        // Starts 0 and 37, the directory at 4F, all hexadecimal.
+        ("part list 0", "0 0 0 55"),
+        ("part list 1", "0 0 55 24"),
+        ("part list 2", "11 0 0 0"),
+        ("byte 54 is 81, slot 5", "8 0 0"),
+        ("byte 54 is 81, count list 1", "8 0 0"),
+    ]);
+}
+
+#[test]
+fn searches() {
+    says(&[
+        ("six entries, x 4", "4 4"),
+        ("six entries, x 5", "5 5"),
+        ("six entries, x 6", "6 5"),
+        ("forty entries, finger 0, x 13", "13 8"),
+        ("forty entries, finger 5, x 30", "30 10"),
+        ("forty entries, finger 0, x 40", "40 10"),
+        ("forty entries, finger 5, x 5", "5 1"),
+        ("forty entries, finger 40, x 40", "40 0"),
+        ("list 0, x 7", "1 2"),
+        ("list 0, x 8", "2 4"),
+        ("list 0, x 18", "3 4"),
+    ]);
+}
+
+#[test]
+fn lists_made_for_one_rule() {
+    says(&[
+        ("7 sought in list 0", "0 0 0 2 3"),
+        ("ties 0 1", "0 0 0 3 0"),
+        ("ties 1 0", "0 0 0 4 0"),
+        ("rising counts", "0 0 2 20 6 4 16"),
+        // Three different counts: the order of the names changes nothing.
+        ("rising counts, names 2 1 0", "0 0 2 20 6 4 16"),
+        ("rubbish behind the cut", "0 0 4 5 1 3 11 13 22"),
+        ("rubbish behind the cut, count list 1", "0 0 8"),
+    ]);
+}
+
+#[test]
+fn faults_of_records() {
+    says(&[
+        ("order of faults", "9 0"),
+        ("code 80 80 01", "0 0"),
+        ("code 80 80 00", "8 0"),
+        ("code 80 00", "8 0"),
+        ("code 80 80 80 01", "8 0"),
+        ("code 80 80", "8 0"),
+        ("bytes behind the codes", "8 0"),
+        ("first slot 0", "9 0"),
+        ("first slot at the cut", "9 0"),
+        ("first offset 1", "7 0"),
+        // Block 0 is sound; block 1 would run from offset 1 to offset 0.
+        ("end before start", "7 0"),
+        ("n FFFFFFFF", "6 0"),
+        ("L without tail", "6 0"),
+    ]);
+}
+
+/// A record of two slots in one block, the first slot being 1.
+fn pair(code_length: &str, codes: &str) -> String {
+    format!("0000000002000000{code_length}0000000100000000000000{codes}")
+}
+
+#[test]
+fn written_records() {
+    for (gap, code_length, codes) in [
+        (16_384, "02", "ff7f"),
+        (16_385, "03", "808001"),
+        (16_512, "03", "ff8001"),
+        (128, "01", "7f"),
+        (129, "02", "8001"),
+    ] {
+        let length = 12 + 8 + codes.len() / 2;
+        let values = format!("0 0 {length} {}", pair(code_length, codes));
+        says(&[(&format!("write gap {gap}"), &values)]);
+    }
+    let list_1 = "0 0 24 10000000030000000200000028111a000000000000000300";
+    says(&[
+        ("write list 1", list_1),
+        (
+            "write list 0 as bits",
+            "0 0 16 2000000000000000000000009d1350f4",
+        ),
+        ("write nothing", "0 0 12 000000000000000000000000"),
+    ]);
+}
+
+#[test]
+fn writing_refused() {
+    says(&[
+        ("write nothing, room 11", "12 12 0"),
+        ("write 5 3", "13 1 0"),
+        ("write 40 3", "13 0 0"),
+        ("write 0", "13 0 0"),
+        ("write 5 5", "13 1 0"),
+        ("write cut 33", "15 0 0"),
+        ("write B 0", "4 0 0"),
+    ]);
+}
+
+#[test]
+fn closing() {
+    says(&[
+        ("close P", "0 0 111"),
+        ("close P looks", "0 0"),
+        ("close P as P", "1"),
+        ("close no starts", "4 0 0"),
+        ("close room 110", "12 111 0"),
+        // List 0's parts need 55 bytes, list 1's 24.
+        ("close starts 0 54", "6 0 0"),
+        ("close starts 1 55", "5 0 0"),
+        ("close starts 0 80", "5 0 0"),
+        ("close total 81", "6 1 0"),
+        ("close total FFFFFFFF", "1 0 0"),
+        ("close B 129", "4 0 0"),
+    ]);
+}
