@@ -1,0 +1,281 @@
+//! What a run has met, and whether that is enough.
+
+use crate::case::{Call, Case, Outcome, CALLS};
+use crate::lie::LIES;
+use crate::read;
+use crate::third::Met;
+use crate::trace::MET;
+use std::collections::BTreeMap;
+
+/// Every number of refusal must be met so often.
+const ENOUGH: u64 = 50;
+
+const EXACT: &str = "room exact";
+const ONE_LESS: &str = "refused: room one less than needed";
+const SIXTEEN: &str = "sixteen names";
+const EMPTY: &str = "an empty answer in some room";
+
+/// Where in a list or a record a fault can be put.
+const SPOTS: [&str; 18] = [
+    "7, first offset",
+    "7, first block",
+    "7, middle block",
+    "7, last block but one",
+    "8, first block",
+    "8, middle block",
+    "8, last block",
+    "8, first code",
+    "8, middle code",
+    "8, last code",
+    "8, bytes behind the codes",
+    "9, first block",
+    "9, middle block",
+    "9, last block",
+    "9, first slot",
+    "9, first code",
+    "9, middle code",
+    "9, last code",
+];
+
+/// Where two reasons to refuse were there: whose order it is, the number
+/// reported, and the number of the check that comes behind.
+type Order = (&'static str, u32, u32);
+
+/// Orders that must be met.
+const ORDERS: [(&str, &[(u32, u32)]); 5] = [
+    (
+        "index",
+        &[
+            (2, 3),
+            (2, 4),
+            (2, 5),
+            (3, 4),
+            (3, 5),
+            (4, 5),
+            (5, 6),
+            (5, 7),
+            (5, 8),
+            (5, 9),
+            (6, 7),
+            (6, 8),
+            (6, 9),
+            (7, 6),
+            (7, 8),
+            (7, 9),
+            (8, 6),
+            (8, 7),
+            (8, 9),
+            (9, 6),
+            (9, 7),
+            (9, 8),
+            (1, 14),
+            (9, 14),
+        ],
+    ),
+    (
+        "ask",
+        &[(14, 10), (14, 11), (14, 12), (10, 11), (10, 12), (11, 12)],
+    ),
+    ("test", &[(11, 16)]),
+    (
+        "write",
+        &[(4, 15), (4, 13), (4, 12), (15, 13), (15, 12), (13, 12)],
+    ),
+    (
+        "close",
+        &[
+            (4, 1),
+            (4, 12),
+            (4, 5),
+            (4, 6),
+            (1, 12),
+            (1, 5),
+            (12, 5),
+            (12, 6),
+            (12, 9),
+            (5, 6),
+            (5, 8),
+        ],
+    ),
+];
+
+/// Whose order of checks it is: a fault of an index comes first in all that
+/// take one.
+fn group(call: Call, reported: u32) -> &'static str {
+    match call {
+        Call::Write { .. } => "write",
+        Call::Close { .. } => "close",
+        _ if reported <= 9 => "index",
+        _ => CALLS[call.number() as usize],
+    }
+}
+
+#[derive(Default)]
+pub struct Tally {
+    pub cases: u64,
+    pub different: u64,
+    /// Accepted and refused, by function.
+    calls: [[u64; 2]; 7],
+    numbers: [u64; 17],
+    /// 6 to 9 by list, then 11 and 13 by position: first, middle, last.
+    places: [[u64; 3]; 6],
+    aimed: u64,
+    orders: BTreeMap<Order, u64>,
+    met: BTreeMap<&'static str, u64>,
+    lies: [u64; LIES.len()],
+}
+
+impl Tally {
+    /// Counts a case whose answer was as it must be.
+    pub fn count(&mut self, case: &Case, outcome: &Outcome, met: &Met) {
+        let (number, place) = outcome.verdict;
+        let call = case.call.number() as usize;
+        self.calls[call][usize::from(number != 0)] += 1;
+        self.numbers[number as usize] += 1;
+        self.aimed += u64::from(case.aim.is_some());
+        for event in met.iter().chain(case.spots.iter().flatten()) {
+            self.meet(event);
+        }
+        if let Some((reported, behind)) = case.order {
+            let order = (group(case.call, reported), reported, behind);
+            *self.orders.entry(order).or_default() += 1;
+        }
+        self.count_place(case, number, place);
+        if let Call::Ask { .. } = case.call {
+            self.count_room(case, outcome);
+        }
+    }
+
+    pub fn meet(&mut self, event: &'static str) {
+        *self.met.entry(event).or_default() += 1;
+    }
+
+    pub fn lied(&mut self, which: usize) {
+        self.lies[which] += 1;
+    }
+
+    fn order(&self, whose: &'static str, reported: u32, behind: u32) -> u64 {
+        *self.orders.get(&(whose, reported, behind)).unwrap_or(&0)
+    }
+
+    fn count_place(&mut self, case: &Case, number: u32, place: u32) {
+        let given = case.before.given.len() as u32;
+        let (row, many) = match (number, case.call) {
+            (6..=9, Call::Close { .. }) => (number as usize - 6, given),
+            (6..=9, _) => (number as usize - 6, read::k(&case.before.bytes)),
+            (11, Call::Ask { .. }) => (4, given),
+            (13, _) => (5, given),
+            _ => return,
+        };
+        let which = match place {
+            0 => 0,
+            last if last + 1 == many => 2,
+            _ => 1,
+        };
+        self.places[row][which] += 1;
+    }
+
+    fn count_room(&mut self, case: &Case, outcome: &Outcome) {
+        let room = case.before.slots.len();
+        if outcome.verdict == (12, room as u32 + 1) {
+            self.meet(ONE_LESS);
+        }
+        if outcome.verdict.0 != 0 {
+            return;
+        }
+        let names = &case.before.given;
+        let counts = names
+            .iter()
+            .map(|&name| read::list(&case.before.bytes, name).held.len());
+        if counts.min() == Some(room) {
+            self.meet(EXACT);
+        }
+        if names.len() == 16 {
+            self.meet(SIXTEEN);
+        }
+        if outcome.numbers[2] == 0 && room > 0 {
+            self.meet(EMPTY);
+        }
+    }
+
+    /// The tables.
+    pub fn print(&self) {
+        println!("function  accepted  refused");
+        for (name, [accepted, refused]) in CALLS.iter().zip(self.calls) {
+            println!("{name:8}  {accepted:8}  {refused:7}");
+        }
+        println!("number of refusal: how often");
+        let numbers: Vec<String> = (1..17)
+            .map(|n| format!("{n}: {}", self.numbers[n]))
+            .collect();
+        println!(
+            "  {}\n  {}",
+            numbers[..8].join("  "),
+            numbers[8..].join("  ")
+        );
+        println!("place at the first, a middle, the last list (6 to 9) or position (11, 13)");
+        for (row, number) in [6, 7, 8, 9, 11, 13].into_iter().enumerate() {
+            let [first, middle, last] = self.places[row];
+            println!("  {number:2}: {first:6} {middle:6} {last:6}");
+        }
+        println!("number reported before another that was there too: how often");
+        for (whose, orders) in ORDERS {
+            let many = |&(a, b)| format!("{a}<{b}: {}", self.order(whose, a, b));
+            let words: Vec<String> = orders.iter().map(many).collect();
+            for (i, line) in words.chunks(12).enumerate() {
+                let whose = if i == 0 { whose } else { "" };
+                println!("  {whose:5}  {}", line.join("  "));
+            }
+        }
+        println!("met: how often");
+        for event in required() {
+            println!("  {:6}  {event}", self.met.get(event).unwrap_or(&0));
+        }
+        println!("answers falsified and noticed: how often");
+        for (lie, many) in LIES.iter().zip(self.lies) {
+            println!("  {many:6}  {lie}");
+        }
+        println!("{} cases were made for a known refusal or none", self.aimed);
+    }
+
+    /// What was not met often enough.
+    pub fn missing(&self) -> Vec<String> {
+        let mut missing = Vec::new();
+        for number in 1..17 {
+            if self.numbers[number] < ENOUGH {
+                missing.push(format!(
+                    "number {number} met {} times",
+                    self.numbers[number]
+                ));
+            }
+        }
+        for (row, number) in [6, 7, 8, 9, 11, 13].into_iter().enumerate() {
+            if self.places[row].contains(&0) {
+                missing.push(format!("a place of number {number}"));
+            }
+        }
+        for (whose, orders) in ORDERS {
+            for &(a, b) in orders {
+                if self.order(whose, a, b) == 0 {
+                    missing.push(format!("{whose}: {a} before {b}"));
+                }
+            }
+        }
+        for event in required() {
+            if !self.met.contains_key(event) {
+                missing.push(event.to_string());
+            }
+        }
+        for (lie, many) in LIES.iter().zip(self.lies) {
+            if many == 0 {
+                missing.push(format!("falsified: {lie}"));
+            }
+        }
+        missing
+    }
+}
+
+fn required() -> impl Iterator<Item = &'static str> {
+    let rooms = [EXACT, ONE_LESS, SIXTEEN, EMPTY];
+    MET.into_iter().chain(rooms).chain(SPOTS)
+}

@@ -1,0 +1,275 @@
+//! The walk of a question by skips, step by step as the paper tells it, with a
+//! note of what was met on the way.
+
+use crate::read::Seen;
+use std::collections::BTreeSet;
+
+pub const TWO_BYTES: &str = "a code of two bytes read";
+pub const THREE_BYTES: &str = "a code of three bytes read";
+pub const RUBBISH: &str = "set bits behind a cut inside a byte";
+pub const UNSORTED: &str = "three different counts, unsorted";
+pub const TIES: &str = "two lists of one count";
+pub const TWICE: &str = "a list named twice";
+pub const GALLOP: &str = "p+16 looked at, three halvings, p > 0";
+pub const BEFORE_BLOCKS: &str = "j = 0 with c > 0 and m > 0";
+pub const AT_CUT: &str = "x = c";
+pub const BEHIND_BLOCK: &str = "x behind a block that isn't the last";
+pub const BEHIND_ALL: &str = "x behind the last block";
+pub const STAYED: &str = "finger above 0 stays";
+pub const NONE_LEFT: &str = "no candidate left for a name";
+
+pub const WRITTEN_TWO: &str = "written: a code of two bytes";
+pub const WRITTEN_THREE: &str = "written: a code of three bytes";
+pub const WRITTEN_CUT: &str = "written: a cut inside a byte";
+
+/// What must be met somewhere in a run.
+pub const MET: [&str; 16] = [
+    TWO_BYTES,
+    THREE_BYTES,
+    RUBBISH,
+    UNSORTED,
+    TIES,
+    TWICE,
+    GALLOP,
+    BEFORE_BLOCKS,
+    AT_CUT,
+    BEHIND_BLOCK,
+    BEHIND_ALL,
+    STAYED,
+    NONE_LEFT,
+    WRITTEN_TWO,
+    WRITTEN_THREE,
+    WRITTEN_CUT,
+];
+
+/// The outcome of a walk.
+#[derive(Default)]
+pub struct Walk {
+    pub slots: Vec<u32>,
+    pub looks: u64,
+    pub codes: u64,
+    pub met: BTreeSet<&'static str>,
+}
+
+/// Where a search came to.
+struct Found {
+    j: usize,
+    looks: u64,
+    sixteen: bool,
+    halvings: u32,
+}
+
+/// The slots that all lists hold, as sets.
+pub fn common(lists: &[&Seen]) -> Vec<u32> {
+    let mut common: BTreeSet<u32> = lists[0].held.iter().copied().collect();
+    for list in &lists[1..] {
+        let held: BTreeSet<u32> = list.held.iter().copied().collect();
+        common.retain(|slot| held.contains(slot));
+    }
+    common.into_iter().collect()
+}
+
+/// What the names and their lists are like.
+pub fn met_by_names(names: &[u32], lists: &[&Seen]) -> BTreeSet<&'static str> {
+    let mut met = BTreeSet::new();
+    let counts: Vec<usize> = lists.iter().map(|list| list.held.len()).collect();
+    let different: BTreeSet<usize> = counts.iter().copied().collect();
+    let named: BTreeSet<u32> = names.iter().copied().collect();
+    let pairs: BTreeSet<(u32, usize)> = names.iter().copied().zip(counts.clone()).collect();
+    if lists.iter().any(|list| list.rubbish) {
+        met.insert(RUBBISH);
+    }
+    if different.len() >= 3 && !counts.is_sorted() {
+        met.insert(UNSORTED);
+    }
+    if pairs.len() > different.len() {
+        met.insert(TIES);
+    }
+    if named.len() < names.len() {
+        met.insert(TWICE);
+    }
+    met
+}
+
+/// The walk by skips over the lists in the order named.
+pub fn walk(lists: &[&Seen]) -> Walk {
+    let mut order: Vec<&Seen> = lists.to_vec();
+    order.sort_by_key(|list| list.held.len());
+    let mut walk = Walk {
+        slots: order[0].held.clone(),
+        ..Walk::default()
+    };
+    for list in &order[1..] {
+        sift(&mut walk, list);
+    }
+    walk
+}
+
+/// Keeps the candidates that one more list holds.
+fn sift(walk: &mut Walk, list: &Seen) {
+    if walk.slots.is_empty() {
+        walk.met.insert(NONE_LEFT);
+    }
+    let mut finger = 0;
+    for x in std::mem::take(&mut walk.slots) {
+        let holds = if x <= list.cut {
+            if x == list.cut {
+                walk.met.insert(AT_CUT);
+            }
+            list.held.binary_search(&x).is_ok()
+        } else {
+            let found = search(list, finger, x);
+            note(walk, list, finger, &found);
+            finger = found.j;
+            walk.looks += found.looks;
+            found.j > 0 && in_block(walk, list, found.j, x)
+        };
+        if holds {
+            walk.slots.push(x);
+        }
+    }
+}
+
+/// What is worth counting about one search.
+fn note(walk: &mut Walk, list: &Seen, finger: usize, found: &Found) {
+    if found.sixteen && found.halvings >= 3 && finger > 0 {
+        walk.met.insert(GALLOP);
+    }
+    if found.j == 0 && list.cut > 0 && !list.blocks.is_empty() {
+        walk.met.insert(BEFORE_BLOCKS);
+    }
+    if found.j == finger && finger > 0 {
+        walk.met.insert(STAYED);
+    }
+}
+
+/// The doubling search from the finger, then the halving.
+fn search(list: &Seen, p: usize, x: u32) -> Found {
+    let m = list.blocks.len();
+    let mut found = Found {
+        j: p,
+        looks: 0,
+        sixteen: false,
+        halvings: 0,
+    };
+    let mut good = Vec::new();
+    let mut hi = m + 1;
+    for power in 0.. {
+        let position = p + (1 << power);
+        if position > m {
+            break;
+        }
+        found.looks += 1;
+        found.sixteen |= power == 4;
+        if list.blocks[position - 1][0].0 > x {
+            hi = position;
+            break;
+        }
+        good.push(position);
+    }
+    let Some(&last) = good.last() else {
+        return found;
+    };
+    let mut lo = last;
+    while hi - lo > 1 {
+        let middle = lo + (hi - lo) / 2;
+        found.looks += 1;
+        found.halvings += 1;
+        if list.blocks[middle - 1][0].0 <= x {
+            lo = middle;
+        } else {
+            hi = middle;
+        }
+    }
+    found.j = lo;
+    found
+}
+
+/// Reads block j until a slot that is not below x, or the block's end.
+fn in_block(walk: &mut Walk, list: &Seen, j: usize, x: u32) -> bool {
+    let block = &list.blocks[j - 1];
+    let mut slot = block[0].0;
+    for &(next, length) in &block[1..] {
+        if slot >= x {
+            break;
+        }
+        walk.codes += 1;
+        match length {
+            2 => walk.met.insert(TWO_BYTES),
+            3 => walk.met.insert(THREE_BYTES),
+            _ => false,
+        };
+        slot = next;
+    }
+    if slot < x {
+        let last = j == list.blocks.len();
+        walk.met
+            .insert(if last { BEHIND_ALL } else { BEHIND_BLOCK });
+    }
+    slot == x
+}
+
+#[cfg(test)]
+mod tests {
+    use super::*;
+    use crate::pack::{index, List};
+    use crate::read;
+
+    const ZERO: [u32; 15] = [1, 4, 5, 6, 8, 12, 15, 16, 18, 20, 25, 26, 27, 28, 30];
+    const ONE: [u32; 7] = [3, 5, 12, 16, 26, 30, 31];
+
+    /// Lists of one B, each by its cut and its slots.
+    fn shelf(block: u32, lists: &[(u32, &[u32])]) -> Vec<Seen> {
+        let records: Vec<Vec<u8>> = lists
+            .iter()
+            .map(|&(cut, slots)| List::of(block, cut, slots).bytes())
+            .collect();
+        let bytes = index(100, block, &records);
+        (0..lists.len() as u32)
+            .map(|name| read::list(&bytes, name))
+            .collect()
+    }
+
+    /// Looks, codes and slots of a walk over some of the lists.
+    fn walked(lists: &[Seen], names: &[usize]) -> (u64, u64, Vec<u32>) {
+        let named: Vec<&Seen> = names.iter().map(|&name| &lists[name]).collect();
+        let walk = walk(&named);
+        assert_eq!(walk.slots, common(&named));
+        (walk.looks, walk.codes, walk.slots)
+    }
+
+    #[test]
+    fn the_papers_questions() {
+        let lists = shelf(4, &[(0, &ZERO), (16, &ONE)]);
+        let both = vec![5, 12, 16, 26, 30];
+        assert_eq!(walked(&lists, &[0, 1]), (9, 14, both.clone()));
+        assert_eq!(walked(&lists, &[1]), (0, 0, ONE.to_vec()));
+        assert_eq!(walked(&lists, &[1, 1]), (1, 3, ONE.to_vec()));
+        assert_eq!(walked(&lists, &[1, 0, 0]), (17, 25, both));
+    }
+
+    #[test]
+    fn ties_and_order() {
+        let lists = shelf(1, &[(0, &[7, 8, 9, 10]), (0, &[1, 2, 3, 4])]);
+        assert_eq!(walked(&lists, &[0, 1]).0, 3);
+        assert_eq!(walked(&lists, &[1, 0]).0, 4);
+        let all: Vec<u32> = (1..=26).collect();
+        let even: Vec<u32> = (1..=12).map(|i| 2 * i).collect();
+        let lists = shelf(2, &[(0, &[4, 9, 16, 25]), (0, &all), (0, &even)]);
+        assert_eq!(walked(&lists, &[0, 1, 2]), (20, 6, vec![4, 16]));
+    }
+
+    #[test]
+    fn single_searches() {
+        let list = &shelf(4, &[(0, &ZERO)])[0];
+        assert_eq!(search(list, 0, 8).looks, 4);
+        assert_eq!(search(list, 0, 18).looks, 4);
+        let all: Vec<u32> = (1..=40).collect();
+        let list = &shelf(1, &[(0, &all)])[0];
+        let cases = [(0, 13, 8), (5, 30, 10), (0, 40, 10), (5, 5, 1), (40, 40, 0)];
+        for (finger, x, looks) in cases {
+            let found = search(list, finger, x);
+            assert_eq!((found.j, found.looks), (x as usize, looks));
+        }
+    }
+}
