@@ -8,7 +8,8 @@
  * Each buffer lives in a field of its own between two walls, stretches of memory that may not be touched. Side 0 puts the image against the
  * wall before it, side 1 against the wall behind it: where there is no guard on that side, the first step out of the buffer ends the program.
  *
- * No header and no allocator is used, so that a compiler and a C library without headers are enough. */
+ * No header and no allocator is used, so that a compiler and a C library without headers are enough. The gate holds the declarations below
+ * against include/slots.h by compiling both together. */
 
 typedef unsigned char u8;
 typedef unsigned int u32;
@@ -117,6 +118,8 @@ static void place(struct field *f, u32 side, const u32 *sizes) {
     if (f->bytes > f->size) _exit(BAD_REQUEST);
     f->image = side == 0 ? f->start : f->start + f->size - f->bytes;
     f->buffer = f->image + sizes[0] * f->width;
+    /* An empty slice may come with a null pointer, so one that stands right at the first wall does. */
+    if (sizes[0] == 0 && sizes[1] == 0 && side == 0) f->buffer = 0;
     f->length = sizes[1];
     take(f->image, f->bytes);
 }
