@@ -1,0 +1,138 @@
+//! Lists of all kinds into an index and out again, against sets of the standard library.
+//!
+//! The lists come from a small generator with a fixed seed, so that every run is the same. Nothing of
+//! what is expected comes from the package: an answer is an intersection of sets.
+
+mod common;
+
+use common::refused;
+use slots::{ask, ask_owned, count, index_of, lend, look, record, test, Refusal, Way};
+use std::collections::BTreeSet;
+
+/// The xorshift generator of 64 bits.
+struct Random(u64);
+
+impl Random {
+    /// A number from `low` to `high`, both included.
+    fn between(&mut self, low: u32, high: u32) -> u32 {
+        self.0 ^= self.0 << 13;
+        self.0 ^= self.0 >> 7;
+        self.0 ^= self.0 << 17;
+        let span = u64::from(high - low) + 1;
+        low + u32::try_from((self.0 >> 16) % span).expect("less than the span")
+    }
+
+    fn one_of<T: Copy>(&mut self, choices: &[T]) -> T {
+        let last = u32::try_from(choices.len() - 1).expect("few choices");
+        choices[self.between(0, last) as usize]
+    }
+
+    /// A list that is empty, full, crowded or thin.
+    fn list(&mut self, u: u32) -> BTreeSet<u32> {
+        let one_in = self.one_of(&[1, 2, 3, 10, 200, u32::MAX]);
+        (1..=u).filter(|_| self.between(1, one_in) == 1).collect()
+    }
+}
+
+/// An index, and what was put into it.
+struct Made {
+    u: u32,
+    lists: Vec<BTreeSet<u32>>,
+    records: Vec<Vec<u8>>,
+    index: Vec<u8>,
+}
+
+fn made(random: &mut Random) -> Made {
+    let largest = random.one_of(&[3, 40, 3000]);
+    let u = random.between(1, largest);
+    let largest = random.one_of(&[3, 128]);
+    let block = random.between(1, largest);
+    let lists: Vec<_> = (0..random.between(1, 6)).map(|_| random.list(u)).collect();
+    let mut pack = |list: &BTreeSet<u32>| {
+        let any = random.between(0, u);
+        let cut = random.one_of(&[0, any, u]);
+        let slots: Vec<u32> = list.iter().copied().collect();
+        record(u, block, cut, &slots).expect("a list in order")
+    };
+    let records: Vec<_> = lists.iter().map(&mut pack).collect();
+    let index = index_of(u, block, &records).expect("records of this u and block");
+    Made { u, lists, records, index }
+}
+
+/// Each list by itself: its record, its count, and whether it holds some slots or not.
+fn check_lists(random: &mut Random, made: &Made) {
+    let Made { u, lists, records, index } = made;
+    for (name, (list, record)) in (0..).zip(lists.iter().zip(records)) {
+        assert_eq!(lend(index, name).unwrap().record, record);
+        assert_eq!(count(index, name).unwrap().count as usize, list.len());
+        for slot in (0..20).map(|_| random.between(1, *u)) {
+            assert_eq!(test(index, name, slot).unwrap().yes, list.contains(&slot));
+        }
+    }
+}
+
+/// A question over some of the lists, asked both ways with room that is too small by one, exact, and
+/// larger than needed.
+fn check_question(random: &mut Random, made: &Made) {
+    let last = u32::try_from(made.lists.len() - 1).expect("few lists");
+    let names: Vec<u32> = (0..random.between(1, 16)).map(|_| random.between(0, last)).collect();
+    let named: Vec<_> = names.iter().map(|&name| &made.lists[name as usize]).collect();
+    let in_all = |slot: &u32| named.iter().all(|list| list.contains(slot));
+    let expected: Vec<u32> = named[0].iter().copied().filter(in_all).collect();
+    let needed = named.iter().map(|list| list.len()).min().expect("one name at least");
+    for way in [Way::Plain, Way::BySkips] {
+        check_rooms(&made.index, way, &names, &expected, needed);
+    }
+}
+
+fn check_rooms(index: &[u8], way: Way, names: &[u32], expected: &[u32], needed: usize) {
+    let owned = ask_owned(index, way, names).unwrap();
+    assert_eq!(owned.slots, expected);
+    if way == Way::Plain {
+        assert_eq!((owned.looks, owned.codes), (0, 0));
+    }
+    for room in [needed, needed + 5] {
+        let mut slots = vec![u32::MAX; room];
+        assert_eq!(ask(index, way, names, &mut slots).unwrap().slots, expected);
+        assert!(slots[expected.len()..].iter().all(|&slot| slot == 0));
+    }
+    if let Some(room) = needed.checked_sub(1) {
+        let mut slots = vec![u32::MAX; room];
+        let place = u32::try_from(needed).expect("a count of slots");
+        assert_eq!(ask(index, way, names, &mut slots), refused(Refusal::NoRoom, place));
+        assert!(slots.iter().all(|&slot| slot == u32::MAX));
+    }
+}
+
+#[test]
+fn what_goes_into_an_index_comes_out() {
+    let mut random = Random(0x51_07_5E_ED);
+    for _ in 0..400 {
+        let made = made(&mut random);
+        assert_eq!(look(&made.index), Ok(()));
+        check_lists(&mut random, &made);
+        for _ in 0..4 {
+            check_question(&mut random, &made);
+        }
+    }
+}
+
+/// An index with one byte changed is refused, or it still is an index; nothing panics, and what is
+/// refused to one call is refused to the others.
+#[test]
+fn damage_is_refused_or_leaves_an_index() {
+    let mut random = Random(0xDA_3A_6E);
+    for _ in 0..2000 {
+        let mut made = made(&mut random);
+        let last = u32::try_from(made.index.len() - 1).expect("a short index");
+        let at = random.between(0, last) as usize;
+        made.index[at] ^= 1 << random.between(0, 7);
+        let looked = look(&made.index);
+        for way in [Way::Plain, Way::BySkips] {
+            assert_eq!(ask_owned(&made.index, way, &[0]).map(|_| ()), looked);
+        }
+        assert_eq!(count(&made.index, 0).map(|_| ()), looked);
+        assert_eq!(lend(&made.index, 0).map(|_| ()), looked);
+        assert_eq!(test(&made.index, 0, 1).map(|_| ()), looked);
+    }
+}
