@@ -1,0 +1,212 @@
+"""The command line: look, show, ask, pack and draw, run as `python3 bindings/python COMMAND ..`.
+
+What a command finds goes to standard output. A refusal of the library is found too: it is printed as `refused: ..`, with status 1.
+A file that cannot be read or written, a wrong text for `pack` and wrong usage are one line `slots: ..` on standard error, with status 2.
+"""
+from __future__ import annotations
+
+import argparse
+import os
+import re
+import sys
+from typing import Any, Callable, Dict, Iterable, Iterator, List, NoReturn, Tuple
+
+import packing
+import reading
+import saving
+import slots
+
+WAYS = {"plain": slots.Way.PLAIN, "skips": slots.Way.BY_SKIPS}
+COLUMNS = ("list", "cut", "count", "in bits", "in tail", "blocks", "code bytes", "bytes")
+
+
+def look(given: argparse.Namespace) -> int:
+    slots.look(_bytes(given.file))
+    print("accepted")
+    return 0
+
+
+def show(given: argparse.Namespace) -> int:
+    _print(_described(reading.read(_bytes(given.file))))
+    return 0
+
+
+def ask(given: argparse.Namespace) -> int:
+    answer = slots.ask(_bytes(given.file), given.way, given.names)
+    cost = _many(answer.looks, "look"), _many(answer.codes, "code")
+    _print([", ".join((_many(len(answer.slots), "slot"), *cost)), *map(str, answer.slots)])
+    return 0
+
+
+def pack(given: argparse.Namespace) -> int:
+    with open(given.lists, "rb") as text:
+        index = packing.pack(text, given.lists)
+    made = reading.read(index)  # looks at it, before it gets a file
+    saving.save(given.index, index, given.lists)
+    _print(_described(made))
+    return 0
+
+
+def draw(given: argparse.Namespace) -> int:
+    import picture  # only this command needs it
+
+    title = os.path.basename(given.file) if given.title is None else given.title
+    drawn = picture.draw(_bytes(given.file), _printable(title))
+    saving.save(given.out, drawn.encode("utf-8"), given.file)
+    return 0
+
+
+def _bytes(path: str) -> bytes:
+    with open(path, "rb") as file:
+        return file.read(slots.MOST_BYTES + 1)  # of a larger file so much that the library refuses it with 1
+
+
+def _print(lines: Iterable[str]) -> None:
+    print("\n".join(lines))  # at once, as an answer may have a million lines
+
+
+def _described(index: reading.Index) -> Iterator[str]:
+    yield f"u {index.u}, B {index.block}, {_many(len(index.lists), 'list')}, {index.size} bytes"
+    yield ""
+    yield from _table(index.lists)
+    yield ""
+    yield f"directory {index.directory_bytes} bytes, trailer {reading.TRAILER} bytes"
+
+
+def _table(lists: List[reading.List]) -> Iterator[str]:
+    """One line for each list, below one with the names of the columns; each column as wide as the widest in it."""
+    rows = [(each.name, each.cut, each.count, each.count - each.tail, each.tail, each.blocks, each.code_bytes, each.length) for each in lists]
+    cells = [COLUMNS, *(tuple(map(str, row)) for row in rows)]
+    widths = [max(map(len, column)) for column in zip(*cells)]
+    for row in cells:
+        yield "  ".join(cell.rjust(width) for cell, width in zip(row, widths))
+
+
+def _many(count: int, what: str) -> str:
+    return f"{count} {what}" if count == 1 else f"{count} {what}s"
+
+
+def _way(text: str) -> int:
+    return WAYS[text] if text in WAYS else _number(text, "is not plain, skips, 0 or 1")
+
+
+def _name(text: str) -> int:
+    return _number(text, "is not a number from 0 to 4294967295")
+
+
+def _number(text: str, otherwise: str) -> int:
+    if not re.fullmatch("0*[0-9]{1,10}", text) or int(text[-10:]) >= 2**32:
+        raise argparse.ArgumentTypeError(f"'{text[:24]}' {otherwise}")
+    return int(text[-10:])  # what stands before is zeros
+
+
+Argument = Tuple[str, Dict[str, Any]]
+FILE: Argument = ("file", {"metavar": "FILE", "help": "an index"})
+
+# Of each command: what runs it, what it does, more about it with an example, and its arguments.
+COMMANDS: List[Tuple[Callable[[argparse.Namespace], int], str, str, List[Argument]]] = [
+    (look, "say whether an index is sound", """\
+Prints `accepted`, or `refused:` with the number, the reason and the place.
+
+example:
+  python3 bindings/python look crates/rack/data/rack.idx""", [FILE]),
+    (show, "show what an index consists of", """\
+Prints u, B and the size of the index, then a line for each list: its cut, how
+many slots it holds, how many of them as bits and how many in the tail, how many
+blocks and code bytes the tail has, and how many bytes its record has.
+
+example:
+  python3 bindings/python show crates/rack/data/rack.idx""", [FILE]),
+    (ask, "ask which slots stand in all lists named", """\
+Prints how many slots there are and what the search cost, and then one slot to a
+line. The names are the numbers of the lists, 1 to 16 of them, counted from 0.
+
+example:
+  python3 bindings/python ask crates/rack/data/rack.idx skips 0 1""", [
+        FILE,
+        ("way", {"metavar": "WAY", "type": _way, "help": "plain (or 0): each list is read along; skips (or 1): by leaps over blocks"}),
+        ("names", {"metavar": "NAME", "type": _name, "nargs": "*", "default": [], "help": "a list"})]),
+    (pack, "pack lists of slots from a text into an index", f"""\
+Each list is cut where its record becomes smallest. The index is written only where
+all went well; then what it consists of is printed as by `show`. The text:
+
+{packing.FORMAT}
+example:
+  python3 bindings/python pack lists.txt rack.idx""", [
+        ("lists", {"metavar": "LISTS", "help": "the text"}),
+        ("index", {"metavar": "INDEX", "help": "the index to be written; what stood there is replaced"})]),
+    (draw, "draw an index as a picture", """\
+Writes a picture of the lists and their parts, for any web browser.
+
+example:
+  python3 bindings/python draw crates/rack/data/rack.idx rack.svg""", [
+        FILE,
+        ("out", {"metavar": "OUT.svg", "help": "the picture to be written; what stood there is replaced"}),
+        ("--title", {"metavar": "TEXT", "help": "what stands above the picture (the name of the file)"})]),
+]
+
+
+class _Parser(argparse.ArgumentParser):
+    def error(self, message: str) -> NoReturn:
+        self.exit(2, f"slots: {_printable(message)} (--help tells more)\n")
+
+
+def _parser() -> argparse.ArgumentParser:
+    parser = _Parser(prog="python3 bindings/python", description="Looks at an index of packed lists of slots, shows, asks, makes and draws one.",
+                     epilog="Each command has a --help of its own, with an example. Status: 0; 1 for a refusal; 2 for a wrong file or wrong usage.")
+    commands = parser.add_subparsers(metavar="COMMAND", dest="command", required=True)
+    for run, does, more, arguments in COMMANDS:
+        made = commands.add_parser(run.__name__, help=does, description=f"{does[0].upper()}{does[1:]}.", epilog=more,
+                                   formatter_class=argparse.RawDescriptionHelpFormatter)
+        made.set_defaults(run=run)
+        for name, settings in arguments:
+            made.add_argument(name, **settings)
+    return parser
+
+
+def _printable(text: str) -> str:
+    """The text in one line, whatever names and arguments are in it: a line end or another sign that is not printed is spelled out."""
+    return "".join(sign if sign.isprintable() else repr(sign)[1:-1] for sign in text)
+
+
+def _wrong(words: str) -> int:
+    print(f"slots: {_printable(words)}", file=sys.stderr)
+    return 2
+
+
+def _mute() -> None:
+    """Lets standard output lead nowhere: what it still holds cannot be written, and Python would complain of that once more at its end."""
+    if sys.stdout is not None:
+        os.dup2(os.open(os.devnull, os.O_WRONLY), sys.stdout.fileno())
+
+
+def _run() -> int:
+    try:
+        given = _parser().parse_args()
+        return int(given.run(given))
+    except slots.Refused as refused:
+        print(f"refused: {refused}")
+        return 1
+    finally:
+        if sys.stdout is not None:
+            sys.stdout.flush()  # here, where a failure is still caught
+
+
+def main() -> int:
+    try:
+        return _run()
+    except packing.Wrong as wrong:
+        return _wrong(str(wrong))
+    except BrokenPipeError:
+        _mute()
+        return 128 + 13  # as a program that the closed pipe ends by signal 13
+    except KeyboardInterrupt:
+        _mute()
+        return 128 + 2
+    except OSError as error:
+        _mute()
+        return _wrong(f"{error.filename}: {error.strerror}" if error.filename is not None else error.strerror or str(error))
+
+
+if __name__ == "__main__":
+    sys.exit(main())

@@ -1,0 +1,365 @@
+"""The command line, run as people run it: what it prints, where, and with which status."""
+from __future__ import annotations
+
+import errno
+import os
+import pathlib
+import re
+import signal
+import subprocess
+import sys
+import tempfile
+import time
+import unittest
+import xml.etree.ElementTree
+
+import slots
+
+from .common import DAMAGED, EXAMPLE, LIST_0, LIST_1, PYTHON, RACK, REPOSITORY
+
+COMMANDS = ["look", "show", "ask", "pack", "draw"]
+
+# By hand from docs/FORMAT.md: the heads say cut, tail and code bytes; list 1 has four slots as bits; the records have 55 and 24 bytes.
+SHOWN = """\
+u 32, B 4, 2 lists, 111 bytes
+
+list  cut  count  in bits  in tail  blocks  code bytes  bytes
+   0    0     15        0       15       4          11     55
+   1   16      7        4        3       1           2     24
+
+directory 8 bytes, trailer 24 bytes
+"""
+
+
+class Case(unittest.TestCase):
+    """Each test has a folder of its own, with the example in it as rack.idx, and commands run there."""
+
+    def setUp(self):
+        folder = tempfile.TemporaryDirectory()
+        self.addCleanup(folder.cleanup)
+        self.folder = pathlib.Path(folder.name)
+        self.file("rack.idx", EXAMPLE)
+
+    def file(self, name, data):
+        (self.folder / name).write_bytes(data)
+        return name
+
+    def run_it(self, *given, **more):
+        settings = {"stdout": subprocess.PIPE, "stderr": subprocess.PIPE, "stdin": subprocess.DEVNULL, "cwd": self.folder, "timeout": 60, **more}
+        return subprocess.run([sys.executable, "-W", "error", str(PYTHON), *given], universal_newlines=True, **settings)
+
+    def prints(self, status, text, *given):
+        done = self.run_it(*given)
+        self.assertEqual((done.stdout, done.stderr, done.returncode), (text, "", status))
+
+    def complains(self, words, *given, **more):
+        """One line on standard error, nothing on standard output, status 2."""
+        done = self.run_it(*given, **more)
+        self.assertEqual((done.stderr, done.returncode), (f"slots: {words}\n", 2))
+        self.assertFalse(done.stdout)
+
+    def files(self):
+        return sorted(path.name for path in self.folder.iterdir())
+
+
+class Look(Case):
+    def test_accepted(self):
+        self.prints(0, "accepted\n", "look", "rack.idx")
+
+    def test_refused(self):
+        for number, place, index in DAMAGED:
+            self.prints(1, f"refused: {slots.Refused(number, place)}\n", "look", self.file("bad.idx", index))
+
+    def test_the_words(self):
+        damaged = EXAMPLE[:54] + b"\x81" + EXAMPLE[55:]  # the last code of list 0 now goes on beyond its end
+        self.prints(1, "refused: 8: a code is damaged, or bytes remain behind the codes of a block (list 0)\n", "look", self.file("bad.idx", damaged))
+
+    def test_an_empty_file(self):
+        self.prints(1, "refused: 1: the index has fewer than 24 or more than 16,777,216 bytes\n", "look", self.file("empty", b""))
+
+    def test_files_that_are_too_large(self):
+        for size in 16_777_217, 2**40:  # the second would never fit into memory; on the disk it takes no room
+            with open(self.folder / "large", "wb") as file:
+                file.truncate(size)
+            self.prints(1, "refused: 1: the index has fewer than 24 or more than 16,777,216 bytes\n", "look", "large")
+
+
+class Show(Case):
+    def test_the_example(self):
+        self.prints(0, SHOWN, "show", "rack.idx")
+
+    def test_refused(self):
+        self.prints(1, "refused: 3: the edition is not 1\n", "show", self.file("bad.idx", DAMAGED[2][2]))
+
+    def test_wide_columns(self):
+        # Slots 1 to 1,000,000 as bits: 125,000 bytes and a head of 12; then one slot alone as a gap: a head and an entry.
+        index = slots.index_of(1_000_000, 128, [slots.record(1_000_000, 128, 1_000_000, range(1, 1_000_001)), slots.record(1_000_000, 128, 0, [7])])
+        done = self.run_it("show", self.file("wide.idx", index))
+        self.assertEqual(done.stdout.split("\n"), [
+            f"u 1000000, B 128, 2 lists, {125_012 + 20 + 8 + 24} bytes",
+            "",
+            "list      cut    count  in bits  in tail  blocks  code bytes   bytes",
+            "   0  1000000  1000000  1000000        0       0           0  125012",
+            "   1        0        1        0        1       1           0      20",
+            "",
+            "directory 8 bytes, trailer 24 bytes",
+            ""])
+
+
+class Ask(Case):
+    def test_by_skips(self):
+        for way in "skips", "1", "01":
+            self.prints(0, "5 slots, 9 looks, 14 codes\n5\n12\n16\n26\n30\n", "ask", "rack.idx", way, "0", "1")
+
+    def test_plain(self):
+        for way in "plain", "0":
+            self.prints(0, "5 slots, 0 looks, 0 codes\n5\n12\n16\n26\n30\n", "ask", "rack.idx", way, "0", "1")
+
+    def test_one_of_a_thing(self):
+        self.prints(0, "7 slots, 1 look, 3 codes\n" + "".join(f"{slot}\n" for slot in LIST_1), "ask", "rack.idx", "skips", "1", "1")
+        index = slots.index_of(9, 9, [slots.record(9, 9, 9, [4]), slots.record(9, 9, 9, [])])
+        self.prints(0, "1 slot, 0 looks, 0 codes\n4\n", "ask", self.file("one.idx", index), "skips", "0")
+        self.prints(0, "0 slots, 0 looks, 0 codes\n", "ask", "one.idx", "skips", "0", "1")
+
+    def test_refused(self):
+        self.prints(1, "refused: 10: the question has no name, or more than 16\n", "ask", "rack.idx", "skips")
+        self.prints(1, "refused: 10: the question has no name, or more than 16\n", "ask", "rack.idx", "skips", *["0"] * 17)
+        self.prints(1, "refused: 11: there is no list of that name (name at position 1)\n", "ask", "rack.idx", "plain", "0", "4294967295")
+        self.prints(1, "refused: 14: the way is neither 0 (plain) nor 1 (by skips)\n", "ask", "rack.idx", "2", "0")
+        self.prints(1, "refused: 2: the index does not end in the tag SLOT\n", "ask", self.file("bad.idx", bytes(24)), "plain", "0")
+
+    def test_wrong_words(self):
+        for way in "x", "4294967296", "", "-1", "Plain":
+            self.complains(f"argument WAY: '{way}' is not plain, skips, 0 or 1 (--help tells more)", "ask", "rack.idx", way, "0")
+        for name in "x", "4294967296", "9" * 20, "-1", "", "1.0", "\u0663":
+            self.complains(f"argument NAME: '{name}' is not a number from 0 to 4294967295 (--help tells more)", "ask", "rack.idx", "plain", "0", name)
+
+
+class Pack(Case):
+    LISTS = "# the rack of docs/FORMAT.md\nu 32\nB 4\nlist 1 4-6 8 12 15-16 18 20 25-28 30\nlist 3 5 12 16 26 30-31\n"
+
+    def test_then_show_then_ask(self):
+        self.file("lists.txt", self.LISTS.encode())
+        packed = self.run_it("pack", "lists.txt", "new.idx")
+        self.assertEqual((packed.stderr, packed.returncode), ("", 0))
+        self.assertEqual(self.files(), ["lists.txt", "new.idx", "rack.idx"])
+        self.prints(0, packed.stdout, "show", "new.idx")
+        # Bits take 12 + ceil(30 / 8) and 12 + ceil(31 / 8) bytes; any tail would add an entry of 8 and save at most 4.
+        self.assertEqual(packed.stdout.split("\n")[2:5], [
+            "list  cut  count  in bits  in tail  blocks  code bytes  bytes",
+            "   0   30     15       15        0       0           0     16",
+            "   1   31      7        7        0       0           0     16"])
+        self.prints(0, "5 slots, 0 looks, 0 codes\n5\n12\n16\n26\n30\n", "ask", "new.idx", "skips", "0", "1")
+
+    def test_what_stood_there_is_replaced(self):
+        self.file("lists.txt", self.LISTS.encode())
+        os.chmod(self.folder / "rack.idx", 0o640)
+        self.assertEqual(self.run_it("pack", "lists.txt", "rack.idx").returncode, 0)
+        self.assertEqual([slots.ask((self.folder / "rack.idx").read_bytes(), 0, [name]).slots for name in (0, 1)], [LIST_0, LIST_1])
+        self.assertEqual((self.folder / "rack.idx").stat().st_mode & 0o777, 0o640)
+
+    def test_through_a_link(self):
+        self.file("lists.txt", self.LISTS.encode())
+        os.symlink("rack.idx", self.folder / "link.idx")
+        self.assertEqual(self.run_it("pack", "lists.txt", "link.idx").returncode, 0)
+        self.assertTrue((self.folder / "link.idx").is_symlink())
+        self.assertEqual(slots.count((self.folder / "rack.idx").read_bytes(), 0), 15)
+
+    def test_a_wrong_text_writes_nothing(self):
+        for text, words in [
+            ("u 32\nB 4\nlist 40\n", "lists.txt:3: slot 40 is not in 1..32"),
+            ("u 32\nB 4\nlist 5-4000000000\n", "lists.txt:3: slot 4000000000 is not in 1..32"),
+            ("u 32\nB 4\nlist 3 2\n", "lists.txt:3: slot 2 does not lie above slot 3, which stands before it"),
+            ("u 32\nB 4\nlist 3-2\n", "lists.txt:3: the range 3-2 falls"),
+            ("u 32\nB 4\nlist 1\nwhat\n", "lists.txt:4: a line begins with u, B or list, not with what"),
+            ("u 32\nB 4\nlist 1\a\n", "lists.txt:3: 1\\x07 is neither a slot nor a range of slots"),
+            ("", "lists.txt: u is missing; it must stand before the first list"),
+        ]:
+            self.file("lists.txt", text.encode())
+            self.complains(words, "pack", "lists.txt", "rack.idx")
+            self.assertEqual((self.folder / "rack.idx").read_bytes(), EXAMPLE)
+            self.complains(words, "pack", "lists.txt", "new.idx")
+            self.assertEqual(self.files(), ["lists.txt", "rack.idx"])
+
+    def test_files_that_cannot_be(self):
+        self.file("lists.txt", self.LISTS.encode())
+        os.mkfifo(self.folder / "pipe")
+        self.complains("no.txt: No such file or directory", "pack", "no.txt", "new.idx")
+        self.complains("none/new.idx: No such file or directory", "pack", "lists.txt", "none/new.idx")
+        self.complains(".: this is not a plain file that may be written to", "pack", "lists.txt", ".")
+        self.complains("pipe: this is not a plain file that may be written to", "pack", "lists.txt", "pipe")
+        self.complains("lists.txt: this is the file that was read, and is not overwritten", "pack", "lists.txt", "lists.txt")
+        os.link(self.folder / "lists.txt", self.folder / "same.txt")
+        self.complains("same.txt: this is the file that was read, and is not overwritten", "pack", "lists.txt", "same.txt")
+        self.assertEqual(self.files(), ["lists.txt", "pipe", "rack.idx", "same.txt"])
+
+    @unittest.skipIf(hasattr(os, "geteuid") and os.geteuid() == 0, "root may write everywhere")
+    def test_files_that_may_not_be(self):
+        self.file("lists.txt", self.LISTS.encode())
+        os.chmod(self.folder / "rack.idx", 0o400)
+        self.complains("rack.idx: this is not a plain file that may be written to", "pack", "lists.txt", "rack.idx")
+
+
+class Draw(Case):
+    def test_a_picture(self):
+        self.prints(0, "", "draw", "rack.idx", "rack.svg")
+        self.assertEqual(xml.etree.ElementTree.parse(self.folder / "rack.svg").getroot().tag, "{http://www.w3.org/2000/svg}svg")
+        self.assertEqual(self.files(), ["rack.idx", "rack.svg"])
+
+    def test_the_title(self):
+        for given, title in ([], "rack.idx"), (["--title", "A rack & more"], "A rack & more"), (["--title", "two\nlines"], "two\\nlines"):
+            self.prints(0, "", "draw", "rack.idx", "rack.svg", *given)
+            texts = [each.text for each in xml.etree.ElementTree.parse(self.folder / "rack.svg").iter() if each.text]
+            self.assertIn(title, texts)
+
+    def test_refused(self):
+        self.prints(1, "refused: 3: the edition is not 1\n", "draw", self.file("bad.idx", DAMAGED[2][2]), "rack.svg")
+        self.assertEqual(self.files(), ["bad.idx", "rack.idx"])
+
+    def test_the_index_is_not_overwritten(self):
+        self.complains("rack.idx: this is the file that was read, and is not overwritten", "draw", "rack.idx", "rack.idx")
+        self.assertEqual((self.folder / "rack.idx").read_bytes(), EXAMPLE)
+
+
+class Usage(Case):
+    def test_help(self):
+        self.assertIn("COMMAND", self.run_it("--help").stdout)
+        for command in COMMANDS:
+            done = self.run_it(command, "--help")
+            self.assertEqual((done.stderr, done.returncode), ("", 0))
+            self.assertIn(f"usage: python3 bindings/python {command} ", done.stdout)
+            self.assertIn(f"example:\n  python3 bindings/python {command} ", done.stdout)
+
+    def test_the_examples_in_the_help_are_true(self):
+        os.symlink(REPOSITORY / "crates", self.folder / "crates")
+        self.file("lists.txt", Pack.LISTS.encode())
+        for command in COMMANDS:
+            example = re.search(r"example:\n  python3 bindings/python (.*)", self.run_it(command, "--help").stdout)[1]
+            done = self.run_it(*example.split())
+            self.assertEqual((done.stderr, done.returncode), ("", 0), example)
+
+    def test_the_text_of_lists_in_the_help_is_true(self):
+        text = re.search(r"^  u 32 .*?(?=\n\n)", self.run_it("pack", "--help").stdout, re.M | re.S)[0]
+        self.file("lists.txt", re.sub(r"   +.*", "", re.sub(r"(?m)^  ", "", text)).encode())
+        done = self.run_it("pack", "lists.txt", "new.idx")
+        self.assertEqual((done.stderr, done.returncode), ("", 0))
+        index = (self.folder / "new.idx").read_bytes()
+        self.assertEqual([slots.ask(index, 0, [name]).slots for name in (0, 1)], [[1, 4, 5, 6, 7, 8, 12], []])
+
+    def test_wrong_usage(self):
+        for given, words in [
+            ([], "the following arguments are required: COMMAND"),
+            (["look"], "the following arguments are required: FILE"),
+            (["ask", "rack.idx"], "the following arguments are required: WAY"),
+            (["pack", "a"], "the following arguments are required: INDEX"),
+            (["draw", "a"], "the following arguments are required: OUT.svg"),
+            (["look", "a", "b\nc"], "unrecognized arguments: b\\nc"),
+        ]:
+            self.complains(f"{words} (--help tells more)", *given)
+
+    def test_an_unknown_command(self):
+        done = self.run_it("lok", "rack.idx")
+        self.assertRegex(done.stderr, r"\Aslots: argument COMMAND: invalid choice: 'lok' .*look.*\n\Z")
+        self.assertEqual((done.stdout, done.returncode), ("", 2))
+
+    def test_files_that_cannot_be_read(self):
+        for command, more in ("look", []), ("show", []), ("ask", ["plain", "0"]), ("draw", ["out.svg"]):
+            self.complains("no.idx: No such file or directory", command, "no.idx", *more)
+            self.complains(".: Is a directory", command, ".", *more)
+        self.complains("a\\nb: No such file or directory", "look", "a\nb")
+        self.complains("\\udcff: No such file or directory", "look", b"\xff")
+
+    @unittest.skipIf(hasattr(os, "geteuid") and os.geteuid() == 0, "root may read everything")
+    def test_files_that_may_not_be_read(self):
+        os.chmod(self.folder / "rack.idx", 0)
+        self.complains("rack.idx: Permission denied", "look", "rack.idx")
+
+    def test_no_library(self):
+        done = self.run_it("look", "rack.idx", env={**os.environ, "SLOTS_LIB": str(self.folder)})
+        self.assertRegex(done.stderr, r"\Aslots: the library cannot be loaded \(.*\): run ./build-lib, .*\n\Z")
+        self.assertEqual((done.stdout, done.returncode), ("", 2))
+
+
+class Ends(Case):
+    """Ends that a program does not choose."""
+
+    def start(self, *given):
+        run = subprocess.Popen([sys.executable, str(PYTHON), *given], cwd=self.folder, stdout=subprocess.PIPE, stderr=subprocess.PIPE)
+        self.addCleanup(run.wait)
+        self.addCleanup(run.kill)
+        self.addCleanup(run.stderr.close)
+        self.addCleanup(run.stdout.close)
+        return run
+
+    def test_a_closed_pipe(self):
+        index = slots.index_of(500_000, 8, [slots.record(500_000, 8, 500_000, range(1, 500_001))])
+        self.file("many.idx", index)
+        for given, first in (["ask", "many.idx", "plain", "0"], b"500000 slots, 0 looks, 0 codes\n"), (["look", "rack.idx"], b""):
+            run = self.start(*given)
+            self.assertEqual(run.stdout.read(len(first)), first)
+            run.stdout.close()
+            self.assertEqual((run.wait(60), run.stderr.read()), (128 + signal.SIGPIPE, b""))
+
+    def test_a_closed_pipe_for_the_help(self):
+        run = self.start("--help")
+        run.stdout.close()
+        self.assertIn(run.wait(60), (0, 128 + signal.SIGPIPE))  # which of the two is argparse's affair
+        self.assertEqual(run.stderr.read(), b"")
+
+    def test_an_interrupt(self):
+        # In the background of a shell the tests ignore interrupts, and so would the command, were they not caught here while it starts.
+        self.addCleanup(signal.signal, signal.SIGINT, signal.signal(signal.SIGINT, signal.default_int_handler))
+        os.mkfifo(self.folder / "pipe")
+        run = self.start("look", "pipe")
+        self.addCleanup(os.close, self.at_the_other_end("pipe"))
+        self.assertEqual((self.interrupted(run), run.stdout.read(), run.stderr.read()), (128 + signal.SIGINT, b"", b""))
+
+    def interrupted(self, run):
+        """The status that the command ends with. An interrupt just before Python begins to wait is not seen before that ends: so another follows."""
+        for _ in range(30):
+            run.send_signal(signal.SIGINT)
+            try:
+                return run.wait(2)
+            except subprocess.TimeoutExpired:
+                pass
+        return None
+
+    def at_the_other_end(self, name):
+        """The pipe, open for writing, once the command waits for what comes out of it."""
+        until = time.monotonic() + 60
+        while True:
+            try:
+                return os.open(self.folder / name, os.O_WRONLY | os.O_NONBLOCK)
+            except OSError as error:
+                if error.errno != errno.ENXIO or time.monotonic() > until:
+                    raise
+                time.sleep(0.01)
+
+    @unittest.skipUnless(os.path.exists("/dev/full"), "there is no disk that is always full")
+    def test_a_full_disk(self):
+        for given in ["look", "rack.idx"], ["show", "rack.idx"]:
+            with open("/dev/full", "wb") as full:
+                self.complains("No space left on device", *given, stdout=full)
+
+
+class Share(Case):
+    def run_share(self, *given):
+        done = subprocess.run([sys.executable, "-W", "error", str(PYTHON / "share.py"), *map(str, given)], cwd=self.folder, timeout=60,
+                              stdout=subprocess.PIPE, stderr=subprocess.PIPE, universal_newlines=True)
+        return done.stdout, done.stderr, done.returncode
+
+    def test_the_example(self):
+        self.assertEqual(self.run_share(RACK), ("5\n12\n16\n26\n30\n9 looks, 14 codes\n", "", 0))
+
+    def test_refusals(self):
+        self.file("bad.idx", DAMAGED[7][2])
+        self.assertEqual(self.run_share("bad.idx"), ("", "8: a code is damaged, or bytes remain behind the codes of a block (list 1)\n", 1))
+        self.file("one.idx", slots.index_of(9, 9, [slots.record(9, 9, 0, [4])]))
+        self.assertEqual(self.run_share("one.idx"), ("", "11: there is no list of that name (name at position 1)\n", 1))
+
+    def test_no_file(self):
+        self.assertEqual(self.run_share("no.idx"), ("", "[Errno 2] No such file or directory: 'no.idx'\n", 1))
+        self.assertEqual(self.run_share(), ("", "share.py takes one argument, the path of an index\n", 1))
+
+    def test_it_can_be_read_at_a_glance(self):
+        self.assertLessEqual(len((PYTHON / "share.py").read_text(encoding="utf-8").splitlines()), 25)

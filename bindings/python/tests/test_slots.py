@@ -1,0 +1,273 @@
+"""The functions where they accept: the example of docs/FORMAT.md, what stays as it was, and racks made at random against Python's sets."""
+from __future__ import annotations
+
+import copy
+import ctypes
+import mmap
+import pickle
+import random
+import tempfile
+import threading
+import unittest
+from array import array
+from unittest import mock
+
+import slots
+from slots import Way
+
+from .common import BOTH, EXAMPLE, LIST_0, LIST_1, RACK, RECORD_0, RECORD_1, random_rack
+
+
+def buffers(data: bytes):
+    """The same bytes in objects of every kind that the module takes; those that need it are closed by the caller."""
+    mapped = mmap.mmap(-1, len(data))
+    mapped[:] = data
+    spread = bytearray(2 * len(data))
+    spread[::2] = data
+    return [data, bytearray(data), memoryview(data), memoryview(bytearray(data)), memoryview(b"--" + data)[2:], memoryview(spread)[::2],
+            array("B", data), ctypes.create_string_buffer(data, len(data)), mapped]
+
+
+class Example(unittest.TestCase):
+    def test_it_is_the_file_of_the_small_program(self):
+        self.assertEqual(EXAMPLE, RACK.read_bytes())
+        self.assertEqual(len(EXAMPLE), 111)
+
+    def test_look(self):
+        self.assertIsNone(slots.look(EXAMPLE))
+
+    def test_ask_by_skips(self):
+        for names in [0, 1], [1, 0], (0, 1), range(2), iter([0, 1]), array("I", [0, 1]), array("q", [0, 1]), memoryview(array("I", [1, 0])):
+            answer = slots.ask(EXAMPLE, Way.BY_SKIPS, names)
+            self.assertEqual((answer.slots, answer.looks, answer.codes), (BOTH, 9, 14))
+
+    def test_ask_plain(self):
+        self.assertEqual(slots.ask(EXAMPLE, Way.PLAIN, [0, 1]), slots.Answer(BOTH, 0, 0))
+        self.assertEqual(slots.ask(EXAMPLE, 0, [0]).slots, LIST_0)
+
+    def test_ask_for_one_list_twice(self):
+        # List 1 in itself: 3 5 12 16 are bits and cost nothing. 26 takes a look at the one entry and no code; then the finger stands behind the last
+        # entry: no look more, one code for 30 and two for 31.
+        self.assertEqual(slots.ask(EXAMPLE, Way.BY_SKIPS, [1, 1]), slots.Answer(LIST_1, 1, 3))
+
+    def test_ask_for_as_many_names_as_there_may_be(self):
+        self.assertEqual(slots.ask(EXAMPLE, Way.PLAIN, [0, 1] * 8).slots, BOTH)
+
+    def test_ask_with_room(self):
+        # Seven is what list 1 needs. The last would be 16 gigabytes if it were taken at its word.
+        for room, places in (7, 7), (8, 8), (1_048_576, 1_048_576), (1_048_577, 1_048_576), (2**32 - 1, 1_048_576):
+            with mock.patch("slots._call", wraps=slots._call) as call:
+                self.assertEqual(slots.ask(EXAMPLE, Way.BY_SKIPS, [0, 1], room), slots.Answer(BOTH, 9, 14))
+            self.assertEqual((call.call_count, len(call.call_args[0][-2]), call.call_args[0][-1]), (1, places, places))
+
+    def test_test(self):
+        for name, held in (0, LIST_0), (1, LIST_1):
+            for slot in range(1, 33):
+                self.assertIs(slots.test(EXAMPLE, name, slot).yes, slot in held)
+
+    def test_count(self):
+        self.assertEqual(slots.count(EXAMPLE, 0).count, 15)
+        self.assertEqual(slots.count(EXAMPLE, 1).count, 7)
+
+    def test_lend(self):
+        first, second = slots.lend(EXAMPLE, 0), slots.lend(EXAMPLE, 1)
+        self.assertEqual((first.start, bytes(first.record)), (0, RECORD_0))
+        self.assertEqual((second.start, bytes(second.record)), (55, RECORD_1))
+
+    def test_write_and_close_as_the_readme_does(self):
+        room = bytearray(111)
+        self.assertEqual(slots.write(32, 4, 0, LIST_0, room).length, 55)
+        self.assertEqual(slots.write(32, 4, 16, LIST_1, memoryview(room)[55:]).length, 24)
+        self.assertEqual(slots.close(room, 32, 4, 79, [0, 55]).length, 111)
+        self.assertEqual(room, EXAMPLE)
+
+    def test_record_and_index_of(self):
+        self.assertEqual(slots.record(32, 4, 0, LIST_0), RECORD_0)
+        self.assertEqual(slots.record(32, 4, 16, LIST_1), RECORD_1)
+        self.assertEqual(slots.index_of(32, 4, [RECORD_0, RECORD_1]), EXAMPLE)
+        self.assertEqual(slots.index_of(32, 4, iter([memoryview(RECORD_0), bytearray(RECORD_1)])), EXAMPLE)
+
+    def test_types(self):
+        self.assertIs(type(slots.record(32, 4, 0, [])), bytes)
+        self.assertIs(type(slots.index_of(32, 4, [RECORD_1])), bytes)
+        self.assertTrue(all(type(slot) is int for slot in slots.ask(EXAMPLE, 1, [0, 1]).slots))
+
+    def test_a_list_of_no_slots(self):
+        index = slots.index_of(5, 1, [slots.record(5, 1, 0, []), slots.record(5, 1, 5, [])])
+        # Heads alone, with cut 0 and cut 5; the second has a byte of bits.
+        self.assertEqual(index[:25], bytes(12) + bytes([5]) + bytes(12))
+        self.assertEqual(slots.ask(index, Way.BY_SKIPS, [0, 1]), slots.Answer([], 0, 0))
+        self.assertEqual(slots.ask(index, Way.PLAIN, [1], 0), slots.Answer([], 0, 0))
+
+
+class Answers(unittest.TestCase):
+    """What the answers are as values: a program that forgets the field must still do what it says."""
+
+    def test_tested(self):
+        yes, no = slots.test(EXAMPLE, 0, 5), slots.test(EXAMPLE, 0, 7)
+        self.assertTrue(yes)
+        self.assertFalse(no)
+        self.assertEqual((yes == True, no == False, yes == no), (True, True, False))  # noqa: E712
+        self.assertEqual((repr(yes), str(no)), ("Tested(yes=True)", "False"))
+
+    def test_counted(self):
+        counted = slots.count(EXAMPLE, 1)
+        self.assertTrue(counted)
+        self.assertEqual((counted == 7, counted > 6, counted + 1, list(range(counted))), (True, True, 8, [0, 1, 2, 3, 4, 5, 6]))
+        self.assertEqual((repr(counted), str(counted), type(counted.count)), ("Counted(count=7)", "7", int))
+        self.assertFalse(slots.count(slots.index_of(9, 9, [slots.record(9, 9, 0, [])]), 0))
+
+    def test_written(self):
+        written = slots.write(32, 4, 16, LIST_1, bytearray(24))
+        self.assertEqual((written == 24, 55 + written, repr(written), str(written)), (True, 79, "Written(length=24)", "24"))
+
+    def test_answer(self):
+        self.assertTrue(slots.ask(EXAMPLE, 0, [0, 1]))
+        nothing = slots.index_of(9, 9, [slots.record(9, 9, 0, [2]), slots.record(9, 9, 0, [3])])
+        self.assertFalse(slots.ask(nothing, 0, [0, 1]))
+
+    def test_copies_and_pickles(self):
+        for value in slots.Answer([5], 9, 14), slots.Tested(True), slots.Tested(False), slots.Counted(7), slots.Written(24):
+            for again in copy.copy(value), copy.deepcopy(value), pickle.loads(pickle.dumps(value)):
+                self.assertEqual((type(again), again, repr(again)), (type(value), value, repr(value)))
+
+    def test_every_public_name_is_there(self):
+        own = {name for name, value in vars(slots).items() if getattr(value, "__module__", "") == "slots" and not name.startswith("_")}
+        limits = {name for name in vars(slots) if name.startswith("MOST_")}
+        self.assertEqual(sorted(slots.__all__), sorted(own | limits | {"Bytes", "Room"}))
+
+
+class Memory(unittest.TestCase):
+    """Whose bytes the library gets, and which of them change."""
+
+    def test_an_index_in_any_buffer(self):
+        for index in buffers(EXAMPLE):
+            with self.subTest(kind=type(index).__name__):
+                self.assertIsNone(slots.look(index))
+                self.assertEqual(slots.ask(index, 1, [0, 1]), slots.Answer(BOTH, 9, 14))
+                self.assertTrue(slots.test(index, 0, 5))
+                self.assertEqual(slots.count(index, 0), 15)
+                lent = slots.lend(index, 1)
+                self.assertEqual((lent.start, lent.record.tobytes()), (55, RECORD_1))
+                lent.record.release()
+                if isinstance(index, mmap.mmap):
+                    index.close()
+
+    def test_bytes_go_on_uncopied_and_all_else_as_a_copy(self):
+        class Derived(bytes):
+            def __len__(self):
+                return 10**6
+
+        for index in EXAMPLE, bytearray(EXAMPLE), memoryview(EXAMPLE), Derived(EXAMPLE):
+            with mock.patch("slots._call", wraps=slots._call) as call:
+                slots.look(index)
+            handed, length = call.call_args[0][2:4]
+            self.assertEqual((type(handed), handed, length), (bytes, EXAMPLE, 111))
+            self.assertEqual(handed is index, index is EXAMPLE)
+
+    def test_lend_is_a_view_of_the_object_itself(self):
+        for index in EXAMPLE, bytearray(EXAMPLE):
+            lent = slots.lend(index, 1)
+            self.assertIs(lent.record.obj, index)
+            self.assertTrue(lent.record.readonly)
+        index[55] = 99  # the bytearray
+        self.assertEqual(lent.record[0], 99)
+        with self.assertRaises(BufferError):
+            index.append(0)
+        lent.record.release()
+        index.append(0)
+
+    def test_a_mapped_file(self):
+        with tempfile.TemporaryFile() as file:
+            file.write(EXAMPLE)
+            file.flush()
+            with mmap.mmap(file.fileno(), 0, access=mmap.ACCESS_READ) as mapped:
+                self.assertEqual(slots.ask(mapped, 1, [0, 1]).slots, BOTH)
+
+    def test_a_room_in_any_buffer(self):
+        for room in buffers(bytes(30)):
+            with self.subTest(kind=type(room).__name__):
+                view = memoryview(room)
+                if view.readonly or not view.c_contiguous:
+                    view.release()
+                    continue
+                self.assertEqual(slots.write(32, 4, 16, LIST_1, room).length, 24)
+                self.assertEqual(view.tobytes(), RECORD_1 + bytes(6))
+                view.release()
+                if isinstance(room, mmap.mmap):
+                    room.close()
+
+    def test_bytes_behind_a_record_stay(self):
+        room = bytearray(b"\xA5" * 40)
+        slots.write(32, 4, 16, LIST_1, room)
+        self.assertEqual(room, RECORD_1 + b"\xA5" * 16)
+
+    def test_bytes_in_front_of_a_view_and_behind_it_stay(self):
+        room = bytearray(b"\xA5" * 40)
+        slots.write(32, 4, 16, LIST_1, memoryview(room)[8:32])
+        self.assertEqual(room, b"\xA5" * 8 + RECORD_1 + b"\xA5" * 8)
+
+    def test_bytes_behind_an_index_stay(self):
+        room = bytearray(RECORD_0 + RECORD_1 + b"\xA5" * 40)
+        slots.close(room, 32, 4, 79, [0, 55])
+        self.assertEqual(room, EXAMPLE + b"\xA5" * 8)
+
+    def test_a_room_can_be_resized_afterwards(self):
+        room = bytearray(30)
+        slots.write(32, 4, 16, LIST_1, room)
+        room.append(1)
+        room[:] = RECORD_0 + RECORD_1 + bytes(32)
+        slots.close(room, 32, 4, 79, [0, 55])
+        room.append(1)
+        self.assertEqual(room, EXAMPLE + b"\x01")
+
+    def test_threads_get_the_same_answers(self):
+        found = []
+        threads = [threading.Thread(target=lambda: found.extend(slots.ask(EXAMPLE, 1, [0, 1]) for _ in range(50))) for _ in range(4)]
+        for thread in threads:
+            thread.start()
+        for thread in threads:
+            thread.join()
+        self.assertEqual(found, [slots.Answer(BOTH, 9, 14)] * 200)
+
+
+class Racks(unittest.TestCase):
+    """Racks made at random, against Python's sets."""
+
+    def test_round_trips(self):
+        chance = random.Random(1)
+        for _ in range(300):
+            rack = random_rack(chance)
+            slots.look(rack.index)
+            for name, held in enumerate(rack.lists):
+                self.assertEqual(slots.count(rack.index, name), len(held))
+                self.assertEqual(slots.ask(rack.index, Way.PLAIN, [name]).slots, held)
+                slot = chance.randint(1, rack.u)
+                self.assertIs(slots.test(rack.index, name, slot).yes, slot in held)
+
+    def test_questions(self):
+        chance = random.Random(2)
+        for _ in range(300):
+            rack = random_rack(chance)
+            names = [chance.randrange(len(rack.lists)) for _ in range(chance.randint(1, 16))]
+            shared = sorted(set.intersection(*(set(rack.lists[name]) for name in names)))
+            needed = min(len(rack.lists[name]) for name in names)
+            for way in Way:
+                self.assertEqual(slots.ask(rack.index, way, names).slots, shared)
+                self.assertEqual(slots.ask(rack.index, way, names, needed).slots, shared)
+
+    def test_lent_records_are_those_that_were_written(self):
+        chance = random.Random(3)
+        for _ in range(100):
+            rack = random_rack(chance)
+            start = 0
+            for name, (cut, held) in enumerate(zip(rack.cuts, rack.lists)):
+                lent = slots.lend(rack.index, name)
+                self.assertEqual((lent.start, lent.record), (start, slots.record(rack.u, rack.block, cut, held)))
+                start += len(lent.record)
+
+    def test_the_largest_rack(self):
+        u = slots.MOST_SLOTS
+        full = slots.index_of(u, 128, [slots.record(u, 128, u, range(1, u + 1)), slots.record(u, 128, 0, array("I", range(3, u + 1, 3)))])
+        self.assertEqual(slots.ask(full, Way.BY_SKIPS, [0, 1]).slots, list(range(3, u + 1, 3)))
+        self.assertEqual((slots.count(full, 0), slots.count(full, 1)), (u, u // 3))
