@@ -6,6 +6,7 @@ A file that cannot be read or written, a wrong text for `pack` and wrong usage a
 from __future__ import annotations
 
 import argparse
+import contextlib
 import os
 import re
 import sys
@@ -57,8 +58,11 @@ def draw(given: argparse.Namespace) -> int:
 
 
 def _bytes(path: str) -> bytes:
-    with open(path, "rb") as file:
-        return file.read(slots.MOST_BYTES + 1)  # of a larger file so much that the library refuses it with 1
+    try:
+        with open(path, "rb") as file:
+            return file.read(slots.MOST_BYTES + 1)  # of a larger file so much that the library refuses it with 1
+    except OSError as error:
+        raise OSError(error.errno, error.strerror, path) from None  # a failed read does not tell what was read
 
 
 def _print(lines: Iterable[str]) -> None:
@@ -86,17 +90,15 @@ def _many(count: int, what: str) -> str:
     return f"{count} {what}" if count == 1 else f"{count} {what}s"
 
 
-def _way(text: str) -> int:
-    return WAYS[text] if text in WAYS else _number(text, "is not plain, skips, 0 or 1")
+def _way(text: str) -> slots.Way:
+    if text not in WAYS:  # its number is not taken, or a way that was forgotten would turn the first name into one
+        raise argparse.ArgumentTypeError(f"'{packing.short(text)}' is no way; write plain or skips")
+    return WAYS[text]
 
 
 def _name(text: str) -> int:
-    return _number(text, "is not a number from 0 to 4294967295")
-
-
-def _number(text: str, otherwise: str) -> int:
     if not re.fullmatch("0*[0-9]{1,10}", text) or int(text[-10:]) >= 2**32:
-        raise argparse.ArgumentTypeError(f"'{text[:24]}' {otherwise}")
+        raise argparse.ArgumentTypeError(f"'{packing.short(text)}' is not the number of a list")
     return int(text[-10:])  # what stands before is zeros
 
 
@@ -124,7 +126,7 @@ line. The names are the numbers of the lists, 1 to 16 of them, counted from 0.
 example:
   python3 bindings/python ask crates/rack/data/rack.idx skips 0 1""", [
         FILE,
-        ("way", {"metavar": "WAY", "type": _way, "help": "plain (or 0): each list is read along; skips (or 1): by leaps over blocks"}),
+        ("way", {"metavar": "WAY", "type": _way, "help": "plain: each list is read along; skips: by leaps over blocks"}),
         ("names", {"metavar": "NAME", "type": _name, "nargs": "*", "default": [], "help": "a list"})]),
     (pack, "pack lists of slots from a text into an index", f"""\
 Each list is cut where its record becomes smallest. The index is written only where
@@ -170,7 +172,8 @@ def _printable(text: str) -> str:
 
 
 def _wrong(words: str) -> int:
-    print(f"slots: {_printable(words)}", file=sys.stderr)
+    with contextlib.suppress(OSError):  # the status still tells
+        print(f"slots: {_printable(words)}", file=sys.stderr)
     return 2
 
 
@@ -205,7 +208,9 @@ def main() -> int:
         return 128 + 2
     except OSError as error:
         _mute()
-        return _wrong(f"{error.filename}: {error.strerror}" if error.filename is not None else error.strerror or str(error))
+        if isinstance(error, slots.NoLibrary):
+            return _wrong(str(error))
+        return _wrong(f"{'standard output' if error.filename is None else error.filename}: {error.strerror}")
 
 
 if __name__ == "__main__":

@@ -6,7 +6,7 @@ What would be too much is taken together, never left out without a word:
   how many it stands for.
 - Of more than FIRST_ROWS + LAST_ROWS lists only the first FIRST_ROWS and the last LAST_ROWS have rows; a line says how many have none. The strip of
   the whole index shows all.
-- A part that is narrower than a pixel is named below its row.
+- A part that is too narrow for its name above it is named below its row.
 - A block of one slot has no code bytes, so there is no box of it; the tooltip of its skip entry says so.
 
 `about` is what an index says about itself, `of` a list of it, `block` its B, and `scale` the pixels for each byte.
@@ -32,6 +32,7 @@ FEW = 16        # so many slots, or bytes, are named one by one
 LEAST = 4       # pixels: parts that are narrower are taken together, ..
 MERGED = 64     # .. until they are so wide, which is room for "80,660 entries" in two lines
 BOXES = 828     # pixels: the width of a row
+WORDS = 28      # pixels: a box of this width may have words in it
 HEX = 15        # pixels: a byte of this width can be read in hexadecimal
 
 Label = Tuple[str, ...]  # words that are not broken; between them is a space or the end of a line
@@ -217,7 +218,7 @@ def _record_section(index: bytes, about: reading.Index, shown: Sequence[reading.
     lines: List[Union[Row, str]] = [*rows]
     if left_out:
         lines.insert(FIRST_ROWS, f"{_numbered('list', FIRST_ROWS, FIRST_ROWS + left_out)}: {many(left_out, 'row')} not shown")
-    return Section("The records of the lists, all at one scale", _remarks(rows), scale, tuple(lines))
+    return Section("The records of the lists, all at one scale", _remarks(rows, scale), scale, tuple(lines))
 
 
 def _record_row(index: bytes, block: int, of: reading.List, scale: float) -> Row:
@@ -226,9 +227,9 @@ def _record_row(index: bytes, block: int, of: reading.List, scale: float) -> Row
     return Row(f"list {of.name:,}", notes, tuple(record_boxes(index, block, of, scale)), values)
 
 
-def _remarks(rows: Sequence[Row]) -> Tuple[str, ...]:
-    """How the boxes of the records are read, as far as there are such that are not merged."""
-    kinds = {box.kind for row in rows for box in row.boxes if box.holds == 1}
+def _remarks(rows: Sequence[Row], scale: float) -> Tuple[str, ...]:
+    """How the boxes of the records are read, as far as there are such that are not merged and wide enough for words."""
+    kinds = {box.kind for row in rows for box in row.boxes if box.holds == 1 and box.length * scale >= WORDS}
     entries = "In a skip entry: the slot that its block begins with, and where its codes begin (@), counted from the first code byte."
     held = "In bits and in a block: the slots that they hold, or how many." if kinds & {Kind.BITS, Kind.BLOCK} else ""
     foot = "At the foot of a box: its bytes, in hexadecimal." if any(row.values for row in rows) else ""

@@ -14,7 +14,7 @@ from typing import BinaryIO, Dict, Iterable, Iterator, List, Sequence, Tuple
 from reading import HEAD, TRAILER
 from slots import MOST_BLOCK, MOST_BYTES, MOST_LISTS, MOST_SLOTS, index_of, record
 
-__all__ = ["FORMAT", "MOST_LINE", "Wrong", "pack", "sizes", "smallest"]
+__all__ = ["FORMAT", "MOST_LINE", "Wrong", "pack", "short", "sizes", "smallest"]
 
 FORMAT = """\
   u 32              how many slots the rack has, 1 to 1,048,576
@@ -117,7 +117,7 @@ class _Sheet:
         elif word in _LIMITS:
             self._take_number(word, list(itertools.islice(words, 2)))
         elif word:
-            raise Wrong(f"a line begins with u, B or list, not with {_short(word)}")
+            raise Wrong(f"a line begins with u, B or list, not with '{short(word)}'")
 
     def index(self) -> bytes:
         for word in _LIMITS:
@@ -130,7 +130,7 @@ class _Sheet:
         if word in self.numbers:
             raise Wrong(f"{word} is given twice")
         if len(given) != 1 or not re.fullmatch("[0-9]+", given[0]):
-            raise Wrong(f"{word} takes one number")
+            raise Wrong(f"{word} takes one number, in digits alone")
         self.numbers[word] = _within(word, given[0], _LIMITS[word])
 
     def _take_list(self, words: Iterable[str]) -> None:
@@ -166,11 +166,11 @@ def _span(word: str, u: int) -> Tuple[int, int]:
     """The first and the last of the slots that a word names. Both are within the rack, so that a range cannot be long."""
     span = _SPAN.fullmatch(word)
     if span is None:
-        raise Wrong(f"{_short(word)} is neither a slot nor a range of slots")
+        raise Wrong(f"'{short(word)}' is neither a slot, as 5, nor a range, as 5-8; blanks stand between them")
     first = _within("slot", span[1], u)
     last = first if span[2] is None else _within("slot", span[2], u)
     if last < first:
-        raise Wrong(f"the range {_short(word)} falls")
+        raise Wrong(f"the range {short(word)} falls")
     return first, last
 
 
@@ -178,9 +178,9 @@ def _within(what: str, digits: str, most: int) -> int:
     """The number that the digits spell, if it is in 1..most. A number with too many digits is not even read, since that may take long."""
     plain = digits.lstrip("0")
     if not plain or len(plain) > len(str(most)) or int(plain) > most:
-        raise Wrong(f"{what} {_short(digits)} is not in 1..{most:,}")
+        raise Wrong(f"{what} {short(digits)} is not in 1..{most:,}")
     return int(plain)
 
 
-def _short(word: str) -> str:
+def short(word: str) -> str:
     return word if len(word) <= 24 else word[:20] + ".."

@@ -176,8 +176,9 @@ def _draw_row(root: ET.Element, row: Row, scale: float, y: float) -> float:
     _text(root, MARGIN, y + LINE, row.name, "name")
     for number, note in enumerate(row.notes, 2):
         _text(root, MARGIN, y + 1 + number * LINE, note, "note")
+    named = _named_parts(row, scale) if row.parted else _parts(row)
     if row.parted:
-        _draw_part_names(root, row, scale, y + SMALL)
+        _draw_part_names(root, row, named, scale, y + SMALL)
     y += LINE + 3 if row.parted else 2
     start = row.boxes[0].start
     for box in row.boxes:
@@ -186,10 +187,10 @@ def _draw_row(root: ET.Element, row: Row, scale: float, y: float) -> float:
     y += height
     _draw_positions(root, row, scale, y)
     y += TICK + LINE
-    narrow = ", ".join(f"{_part_name(part)} ({many(part.length, 'byte')})" for part in _parts(row) if part.length * scale < 1)
+    narrow = ", ".join(f"{_part_name(part)} ({many(part.length, 'byte')})" for part in _parts(row) if part not in named)
     if narrow:
         y += LINE
-        _text(root, LEFT, y, f"narrower than a pixel: {narrow}", "note")
+        _text(root, LEFT, y, f"too narrow for a name: {narrow}", "note")
     return y + LINE
 
 
@@ -236,15 +237,18 @@ def _draw_lines(group: ET.Element, lines: Sequence[str], frame: _Frame) -> None:
         _text(group, frame.x + frame.width / 2, top + number * LINE - 3, line, "mid")
 
 
-def _draw_part_names(root: ET.Element, row: Row, scale: float, y: float) -> None:
-    """The name of each part of a row above its boxes, where it ends before the next part; that of the last may go to the edge of the picture."""
+def _draw_part_names(root: ET.Element, row: Row, named: Sequence[Box], scale: float, y: float) -> None:
+    for part in named:
+        _text(root, LEFT + (part.start - row.boxes[0].start) * scale, y, _part_name(part), "note")
+
+
+def _named_parts(row: Row, scale: float) -> List[Box]:
+    """The parts of a row whose name above the boxes ends before the next part; that of the last may go to the edge of the picture."""
     parts = _parts(row)
     start = row.boxes[0].start
     ends = [(part.start - start) * scale for part in parts[1:]] + [BOXES]
-    for part, end in zip(parts, ends):
-        left = (part.start - start) * scale
-        if part.length * scale >= 1 and left + _width(_part_name(part)) + PAD <= end:
-            _text(root, LEFT + left, y, _part_name(part), "note")
+    return [part for part, end in zip(parts, ends)
+            if part.length * scale >= 1 and (part.start - start) * scale + _width(_part_name(part)) + PAD <= end]
 
 
 def _parts(row: Row) -> List[Box]:

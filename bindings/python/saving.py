@@ -12,14 +12,17 @@ __all__ = ["save"]
 def save(path: str, data: bytes, source: str) -> None:
     """Writes the bytes into a new file beside `path` and then gives it that name. Raises OSError, with `path` in it, where that cannot be.
 
-    `source` is the file that the bytes were made from: it is never overwritten. Nor is anything that is not a plain file, such as a device.
+    `source` is the file that the bytes were made from: it is never overwritten. Nor is anything that is not a plain file, such as a device or a pipe,
+    nor the file that standard output goes to, of which this would be only a part.
     """
     target = os.path.realpath(path)  # a link stays, and what it leads to is replaced
-    there = os.path.exists(target)
-    if there and os.path.samefile(target, source):
+    there = os.path.exists(path)
+    if there and os.path.samefile(path, source):
         raise OSError(errno.EEXIST, "this is the file that was read, and is not overwritten", path)
-    if there and not (os.path.isfile(target) and os.access(target, os.W_OK)):
+    if there and not (os.path.isfile(path) and os.access(path, os.W_OK)) or os.path.islink(target) or not os.path.basename(path):
         raise OSError(errno.EACCES, "this is not a plain file that may be written to", path)
+    if there and _is_standard_output(path):
+        raise OSError(errno.EEXIST, "standard output goes there", path)
     new = os.path.join(os.path.dirname(target), f".{os.urandom(8).hex()}.new")
     try:
         _write(new, data)
@@ -31,6 +34,13 @@ def save(path: str, data: bytes, source: str) -> None:
     finally:
         with contextlib.suppress(OSError):
             os.unlink(new)  # it is there only where something went wrong
+
+
+def _is_standard_output(path: str) -> bool:
+    try:
+        return os.path.samestat(os.stat(path), os.fstat(1))
+    except OSError:
+        return False  # there is no standard output
 
 
 def _write(path: str, data: bytes) -> None:

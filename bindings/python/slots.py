@@ -1,8 +1,8 @@
 """The library of packed lists of slots, for Python: look, ask, test, count, lend, write and close.
 
 A rack has slots numbered 1 to u. A list is a set of slots, and an index packs up to 4,096 lists, numbered from 0, into one run of bytes
-(docs/FORMAT.md has the format). Each function here hands its arguments to the C function of the same name (include/slots.h), which is proved:
-an answer is right, or the call is refused.
+(docs/FORMAT.md has the format). Each function here hands its arguments to the C function of the same name (include/slots.h), which is proved: an answer is
+right, or the call is refused. (`record` and `index_of` are `write` and `close` with a buffer of their own.)
 
     import slots
 
@@ -232,10 +232,11 @@ class Lent:
     record: memoryview
 
 
-def look(index: Bytes) -> None:
-    """Returns (None) where the index is sound, and raises Refused with one of 1 to 9 where it is not."""
+def look(index: Bytes) -> bool:
+    """Returns True where the index is sound, and raises Refused with one of 1 to 9 where it is not."""
     held = _held("index", index)
     _accepted(_call("slots_look", 2, held, len(held)))
+    return True
 
 
 def ask(index: Bytes, way: int, names: Iterable[int], room: Optional[int] = None) -> Answer:
@@ -373,7 +374,7 @@ def _held(what: str, value: Bytes) -> bytes:
     if type(value) is bytes:  # a class derived from it could tell a wrong length
         return value
     with _view(what, value) as view:
-        return view.tobytes()
+        return view[:MOST_BYTES + 1].tobytes()  # of more bytes so many that the library refuses them with 1
 
 
 def _room(room: Room) -> ctypes.Array[ctypes.c_uint8]:

@@ -1,6 +1,7 @@
 """What several tests share: the example index of docs/FORMAT.md, damaged copies of it, and racks made at random."""
 from __future__ import annotations
 
+import os
 import pathlib
 import random
 from dataclasses import dataclass
@@ -12,6 +13,10 @@ REPOSITORY = pathlib.Path(__file__).resolve().parents[3]
 PYTHON = REPOSITORY / "bindings" / "python"
 HEADER = REPOSITORY / "include" / "slots.h"
 RACK = REPOSITORY / "crates" / "rack" / "data" / "rack.idx"
+
+# The surroundings of a program that a test starts: those of the test, without the settings that would change how Python writes, and at one width.
+SURROUNDINGS = {name: value for name, value in os.environ.items() if not name.startswith("PYTHON")}
+SURROUNDINGS.update(PYTHONUTF8="1", COLUMNS="80")
 
 # The lists of the example, and its bytes as the last section of docs/FORMAT.md has them.
 LIST_0 = [1, 4, 5, 6, 8, 12, 15, 16, 18, 20, 25, 26, 27, 28, 30]

@@ -15,7 +15,7 @@ import xml.etree.ElementTree
 
 import slots
 
-from .common import DAMAGED, EXAMPLE, LIST_0, LIST_1, PYTHON, RACK, REPOSITORY
+from .common import DAMAGED, EXAMPLE, LIST_0, LIST_1, PYTHON, RACK, REPOSITORY, SURROUNDINGS
 
 COMMANDS = ["look", "show", "ask", "pack", "draw"]
 
@@ -45,7 +45,8 @@ class Case(unittest.TestCase):
         return name
 
     def run_it(self, *given, **more):
-        settings = {"stdout": subprocess.PIPE, "stderr": subprocess.PIPE, "stdin": subprocess.DEVNULL, "cwd": self.folder, "timeout": 60, **more}
+        settings = {"stdout": subprocess.PIPE, "stderr": subprocess.PIPE, "stdin": subprocess.DEVNULL, "cwd": self.folder, "timeout": 60,
+                    "env": SURROUNDINGS, **more}
         return subprocess.run([sys.executable, "-W", "error", str(PYTHON), *given], universal_newlines=True, **settings)
 
     def prints(self, status, text, *given):
@@ -108,12 +109,10 @@ class Show(Case):
 
 class Ask(Case):
     def test_by_skips(self):
-        for way in "skips", "1", "01":
-            self.prints(0, "5 slots, 9 looks, 14 codes\n5\n12\n16\n26\n30\n", "ask", "rack.idx", way, "0", "1")
+        self.prints(0, "5 slots, 9 looks, 14 codes\n5\n12\n16\n26\n30\n", "ask", "rack.idx", "skips", "0", "1")
 
     def test_plain(self):
-        for way in "plain", "0":
-            self.prints(0, "5 slots, 0 looks, 0 codes\n5\n12\n16\n26\n30\n", "ask", "rack.idx", way, "0", "1")
+        self.prints(0, "5 slots, 0 looks, 0 codes\n5\n12\n16\n26\n30\n", "ask", "rack.idx", "plain", "0", "1")
 
     def test_one_of_a_thing(self):
         self.prints(0, "7 slots, 1 look, 3 codes\n" + "".join(f"{slot}\n" for slot in LIST_1), "ask", "rack.idx", "skips", "1", "1")
@@ -125,14 +124,13 @@ class Ask(Case):
         self.prints(1, "refused: 10: the question has no name, or more than 16\n", "ask", "rack.idx", "skips")
         self.prints(1, "refused: 10: the question has no name, or more than 16\n", "ask", "rack.idx", "skips", *["0"] * 17)
         self.prints(1, "refused: 11: there is no list of that name (name at position 1)\n", "ask", "rack.idx", "plain", "0", "4294967295")
-        self.prints(1, "refused: 14: the way is neither 0 (plain) nor 1 (by skips)\n", "ask", "rack.idx", "2", "0")
         self.prints(1, "refused: 2: the index does not end in the tag SLOT\n", "ask", self.file("bad.idx", bytes(24)), "plain", "0")
 
     def test_wrong_words(self):
-        for way in "x", "4294967296", "", "-1", "Plain":
-            self.complains(f"argument WAY: '{way}' is not plain, skips, 0 or 1 (--help tells more)", "ask", "rack.idx", way, "0")
+        for way in "x", "0", "1", "", "-1", "Plain":  # also 0 and 1, which are the names of lists
+            self.complains(f"argument WAY: '{way}' is no way; write plain or skips (--help tells more)", "ask", "rack.idx", way, "0")
         for name in "x", "4294967296", "9" * 20, "-1", "", "1.0", "\u0663":
-            self.complains(f"argument NAME: '{name}' is not a number from 0 to 4294967295 (--help tells more)", "ask", "rack.idx", "plain", "0", name)
+            self.complains(f"argument NAME: '{name}' is not the number of a list (--help tells more)", "ask", "rack.idx", "plain", "0", name)
 
 
 class Pack(Case):
@@ -171,8 +169,8 @@ class Pack(Case):
             ("u 32\nB 4\nlist 5-4000000000\n", "lists.txt:3: slot 4000000000 is not in 1..32"),
             ("u 32\nB 4\nlist 3 2\n", "lists.txt:3: slot 2 does not lie above slot 3, which stands before it"),
             ("u 32\nB 4\nlist 3-2\n", "lists.txt:3: the range 3-2 falls"),
-            ("u 32\nB 4\nlist 1\nwhat\n", "lists.txt:4: a line begins with u, B or list, not with what"),
-            ("u 32\nB 4\nlist 1\a\n", "lists.txt:3: 1\\x07 is neither a slot nor a range of slots"),
+            ("u 32\nB 4\nlist 1\nwhat\n", "lists.txt:4: a line begins with u, B or list, not with 'what'"),
+            ("u 32\nB 4\nlist 1\a\n", "lists.txt:3: '1\\x07' is neither a slot, as 5, nor a range, as 5-8; blanks stand between them"),
             ("", "lists.txt: u is missing; it must stand before the first list"),
         ]:
             self.file("lists.txt", text.encode())
@@ -275,7 +273,7 @@ class Usage(Case):
         self.complains("rack.idx: Permission denied", "look", "rack.idx")
 
     def test_no_library(self):
-        done = self.run_it("look", "rack.idx", env={**os.environ, "SLOTS_LIB": str(self.folder)})
+        done = self.run_it("look", "rack.idx", env={**SURROUNDINGS, "SLOTS_LIB": str(self.folder)})
         self.assertRegex(done.stderr, r"\Aslots: the library cannot be loaded \(.*\): run ./build-lib, .*\n\Z")
         self.assertEqual((done.stdout, done.returncode), ("", 2))
 
@@ -284,7 +282,7 @@ class Ends(Case):
     """Ends that a program does not choose."""
 
     def start(self, *given):
-        run = subprocess.Popen([sys.executable, str(PYTHON), *given], cwd=self.folder, stdout=subprocess.PIPE, stderr=subprocess.PIPE)
+        run = subprocess.Popen([sys.executable, str(PYTHON), *given], cwd=self.folder, env=SURROUNDINGS, stdout=subprocess.PIPE, stderr=subprocess.PIPE)
         self.addCleanup(run.wait)
         self.addCleanup(run.kill)
         self.addCleanup(run.stderr.close)
@@ -339,13 +337,13 @@ class Ends(Case):
     def test_a_full_disk(self):
         for given in ["look", "rack.idx"], ["show", "rack.idx"]:
             with open("/dev/full", "wb") as full:
-                self.complains("No space left on device", *given, stdout=full)
+                self.complains("standard output: No space left on device", *given, stdout=full)
 
 
 class Share(Case):
     def run_share(self, *given):
         done = subprocess.run([sys.executable, "-W", "error", str(PYTHON / "share.py"), *map(str, given)], cwd=self.folder, timeout=60,
-                              stdout=subprocess.PIPE, stderr=subprocess.PIPE, universal_newlines=True)
+                              env=SURROUNDINGS, stdout=subprocess.PIPE, stderr=subprocess.PIPE, universal_newlines=True)
         return done.stdout, done.stderr, done.returncode
 
     def test_the_example(self):

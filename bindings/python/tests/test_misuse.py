@@ -15,7 +15,7 @@ from unittest import mock
 
 import slots
 
-from .common import EXAMPLE, LIST_1, PYTHON, RECORD_1
+from .common import EXAMPLE, LIST_1, PYTHON, RECORD_1, SURROUNDINGS
 
 # Each function with arguments that are accepted, by the names of its parameters.
 CALLS = [
@@ -191,7 +191,7 @@ class Library(unittest.TestCase):
         code = f"import sys; sys.path.insert(0, {str(PYTHON)!r}); import slots\n" \
                f"try: slots.look(bytes.fromhex({EXAMPLE.hex()!r})); print('accepted')\n" \
                "except slots.NoLibrary as error: print(isinstance(error, OSError), error)"
-        environment = {key: value for key, value in os.environ.items() if key != "SLOTS_LIB"}
+        environment = {key: value for key, value in SURROUNDINGS.items() if key != "SLOTS_LIB"}
         if folder is not None:
             environment["SLOTS_LIB"] = str(folder)
         done = subprocess.run([sys.executable, "-W", "error", "-c", code], env=environment, cwd=where, check=True, capture_output=True, text=True)
@@ -200,7 +200,7 @@ class Library(unittest.TestCase):
     def setUp(self):
         folder = tempfile.TemporaryDirectory()
         self.addCleanup(folder.cleanup)
-        self.folder = pathlib.Path(folder.name)
+        self.folder = pathlib.Path(folder.name).resolve()
 
     def test_by_default_wherever_one_stands(self):
         self.assertEqual(self.tried(None, self.folder), "accepted\n")

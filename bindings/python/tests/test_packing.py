@@ -107,12 +107,12 @@ class Wrong(unittest.TestCase):
             ("3 3", "slot 3 does not lie above slot 3, which stands before it"),
             ("5-8 7", "slot 7 does not lie above slot 8, which stands before it"),
             ("8-5", "the range 8-5 falls"),
-            ("5,6", "5,6 is neither a slot nor a range of slots"),
-            ("-5", "-5 is neither a slot nor a range of slots"),
-            ("5-", "5- is neither a slot nor a range of slots"),
-            ("5 - 8", "- is neither a slot nor a range of slots"),
-            ("1.5", "1.5 is neither a slot nor a range of slots"),
-            ("\u0663", "\u0663 is neither a slot nor a range of slots"),  # a digit, but not one of ours
+            ("5,6", "'5,6' is neither a slot, as 5, nor a range, as 5-8; blanks stand between them"),
+            ("-5", "'-5' is neither a slot, as 5, nor a range, as 5-8; blanks stand between them"),
+            ("5-", "'5-' is neither a slot, as 5, nor a range, as 5-8; blanks stand between them"),
+            ("5 - 8", "'-' is neither a slot, as 5, nor a range, as 5-8; blanks stand between them"),
+            ("1.5", "'1.5' is neither a slot, as 5, nor a range, as 5-8; blanks stand between them"),
+            ("\u0663", "'\u0663' is neither a slot, as 5, nor a range, as 5-8; blanks stand between them"),  # a digit, but not one of ours
         ]:
             self.said(f"u 32\nB 4\nlist 1\nlist {given}\nlist 99\n", f"lists.txt:4: {words}")
 
@@ -124,10 +124,10 @@ class Wrong(unittest.TestCase):
             ("B 0\n", "lists.txt:1: B 0 is not in 1..128"),
             ("u 32\n\nu 32\n", "lists.txt:3: u is given twice"),
             ("u 32\nB 4\nlist 1\nB 4\n", "lists.txt:4: B is given twice"),
-            ("u\n", "lists.txt:1: u takes one number"),
-            ("u 32 4\n", "lists.txt:1: u takes one number"),
-            ("B x\n", "lists.txt:1: B takes one number"),
-            ("B -4\n", "lists.txt:1: B takes one number"),
+            ("u\n", "lists.txt:1: u takes one number, in digits alone"),
+            ("u 32 4\n", "lists.txt:1: u takes one number, in digits alone"),
+            ("B x\n", "lists.txt:1: B takes one number, in digits alone"),
+            ("B -4\n", "lists.txt:1: B takes one number, in digits alone"),
             ("list 1\n", "lists.txt:1: u is missing; it must stand before the first list"),
             ("u 32\nlist 1\nB 4\n", "lists.txt:2: B is missing; it must stand before the first list"),
             ("", "lists.txt: u is missing; it must stand before the first list"),
@@ -137,10 +137,10 @@ class Wrong(unittest.TestCase):
             self.said(text, words)
 
     def test_other_lines(self):
-        self.said("u 32\nlists 1 2\n", "lists.txt:2: a line begins with u, B or list, not with lists")
-        self.said("U 32\n", "lists.txt:1: a line begins with u, B or list, not with U")
-        self.said("1 2 3\n", "lists.txt:1: a line begins with u, B or list, not with 1")
-        self.said("x" * 99, "lists.txt:1: a line begins with u, B or list, not with xxxxxxxxxxxxxxxxxxxx..")
+        self.said("u 32\nlists 1 2\n", "lists.txt:2: a line begins with u, B or list, not with 'lists'")
+        self.said("U 32\n", "lists.txt:1: a line begins with u, B or list, not with 'U'")
+        self.said("1 2 3\n", "lists.txt:1: a line begins with u, B or list, not with '1'")
+        self.said("x" * 99, "lists.txt:1: a line begins with u, B or list, not with 'xxxxxxxxxxxxxxxxxxxx..'")
 
     def test_no_text(self):
         with self.assertRaises(packing.Wrong) as caught:

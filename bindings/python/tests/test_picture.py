@@ -438,13 +438,13 @@ class Document(unittest.TestCase):
                 self.assertEqual([below[-1] for below in itertools.compress(of_rows, wide)],
                                  [f"{boxes[-1].end:,}" for boxes, _ in itertools.compress(drawn, wide)])
 
-    def test_what_is_too_narrow_to_be_seen_is_said(self):
+    def test_what_is_too_narrow_for_a_name_is_said(self):
         # A record of 131,084 bytes: a pixel is 158 of them. The head and the whole of the other record are less.
         drawn = picture.draw(index_of(1_048_576, 4, (1_048_576, []), (0, [9])), TITLE)
         words = [text.text for text in ET.fromstring(drawn).findall(f"{SVG}text")]
-        self.assertEqual([said for said in words if said.startswith("narrower than a pixel")], [
-            "narrower than a pixel: directory (8 bytes), trailer (24 bytes)", "narrower than a pixel: head (12 bytes)",
-            "narrower than a pixel: head (12 bytes), skip entry (8 bytes)"])
+        self.assertEqual([said for said in words if said.startswith("too narrow for a name")], [
+            "too narrow for a name: directory (8 bytes), trailer (24 bytes)", "too narrow for a name: head (12 bytes)",
+            "too narrow for a name: head (12 bytes), skip entry (8 bytes)"])
         self.assertEqual((words.count("bits"), words.count("skip entry")), (2, 1))  # above its boxes and in the legend; in the legend alone
 
     def test_the_legend(self):

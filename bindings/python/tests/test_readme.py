@@ -11,7 +11,7 @@ import sys
 import tempfile
 import unittest
 
-from .common import PYTHON, REPOSITORY
+from .common import PYTHON, REPOSITORY, SURROUNDINGS
 
 README = PYTHON / "README.md"
 TEXT = README.read_text(encoding="utf-8")
@@ -41,6 +41,6 @@ class Readme(unittest.TestCase):
             if command == "cat lists.txt":
                 (self.folder / "lists.txt").write_text(output, encoding="utf-8")
             done = subprocess.run(command.replace("python3", shlex.quote(sys.executable)), shell=True, cwd=self.folder, timeout=60,
-                                  stdout=subprocess.PIPE, universal_newlines=True)
+                                  env=SURROUNDINGS, stdout=subprocess.PIPE, universal_newlines=True)
             self.assertEqual((done.stdout, done.returncode), (output, 1 if output.startswith("refused") else 0), command)
         self.assertIn("new.svg", os.listdir(self.folder))

@@ -44,6 +44,27 @@ class Saving(unittest.TestCase):
                 if isinstance(error, OSError):
                     self.assertEqual((caught.exception.errno, caught.exception.filename), (28, str(self.target)))
 
+    def test_what_is_no_plain_file_stays(self):
+        os.symlink("loop", self.folder / "loop")
+        os.mkfifo(self.folder / "pipe")
+        os.mkdir(self.folder / "folder")
+        for name in "loop", "pipe", "folder", "new/", "/dev/null":
+            with self.subTest(name), self.assertRaisesRegex(OSError, "not a plain file"):
+                saving.save(os.path.join(self.folder, name), b"new", str(self.source))
+        self.assertEqual(sorted(os.listdir(self.folder)), ["folder", "loop", "pipe", "source"])
+
+    def test_a_file_that_may_not_be_written_stays(self):
+        self.target.write_bytes(b"old")
+        with mock.patch("os.access", return_value=False), self.assertRaisesRegex(OSError, "may be written to"):
+            self.save()
+        self.assertEqual(self.files(), {"source": b"source", "target": b"old"})
+
+    def test_standard_output_stays(self):
+        self.target.write_bytes(b"old")
+        with mock.patch("os.fstat", return_value=os.stat(self.target)), self.assertRaisesRegex(OSError, "standard output goes there"):
+            self.save()
+        self.assertEqual(self.files(), {"source": b"source", "target": b"old"})
+
     def test_the_source_stays(self):
         for name in "source", "link":
             if name == "link":

@@ -34,7 +34,7 @@ class Example(unittest.TestCase):
         self.assertEqual(len(EXAMPLE), 111)
 
     def test_look(self):
-        self.assertIsNone(slots.look(EXAMPLE))
+        self.assertIs(True, slots.look(EXAMPLE))
 
     def test_ask_by_skips(self):
         for names in [0, 1], [1, 0], (0, 1), range(2), iter([0, 1]), array("I", [0, 1]), array("q", [0, 1]), memoryview(array("I", [1, 0])):
@@ -143,7 +143,7 @@ class Memory(unittest.TestCase):
     def test_an_index_in_any_buffer(self):
         for index in buffers(EXAMPLE):
             with self.subTest(kind=type(index).__name__):
-                self.assertIsNone(slots.look(index))
+                self.assertIs(True, slots.look(index))
                 self.assertEqual(slots.ask(index, 1, [0, 1]), slots.Answer(BOTH, 9, 14))
                 self.assertTrue(slots.test(index, 0, 5))
                 self.assertEqual(slots.count(index, 0), 15)
