@@ -57,7 +57,7 @@ class Cuts(unittest.TestCase):
         self.held_against_every_cut(33_171, 16, held)
         self.assertEqual(dict(packing.sizes(16, held))[0], 12 + 8 + 1 + 1 + 1 + 2 + 2 + 1 + 2 + 3 + 1 + 1 + 1)
 
-    def test_many_slots_take_no_time(self):
+    def test_a_full_rack(self):
         cut, length = packing.smallest(128, range(1, slots.MOST_SLOTS + 1))
         self.assertEqual((cut, length), (slots.MOST_SLOTS, 12 + slots.MOST_SLOTS // 8))
 
