@@ -61,7 +61,8 @@ enum slots_refusal {
     SLOTS_NOT_RISING = 13, /* the slots to be written do not rise strictly within 1..u; place: the position of the first bad one */
     SLOTS_BAD_WAY = 14,    /* the way is neither 0 (plain) nor 1 (by skips) */
     SLOTS_BAD_CUT = 15,    /* the cut is above u */
-    SLOTS_OUTSIDE = 16     /* the slot to be tested is not in 1..u */
+    SLOTS_OUTSIDE = 16,    /* the slot to be tested is not in 1..u */
+    SLOTS_BAD_BITS = 17    /* a bit beyond the cut is set; place: the list */
 };
 
 /* How a question goes through the lists. Both ways find the same slots. */
@@ -72,8 +73,9 @@ enum slots_way {
 
 /* slots_look: whether the index is sound.
  *
- * Accepted exactly where no row of 1 to 9 applies to the index; otherwise the first that does, in the order that docs/FORMAT.md gives. Every
- * function below that takes an index looks at the whole of it first, and refuses it with the same number and place. */
+ * Accepted exactly where no row of 1 to 9 and 17 applies to the index; otherwise the first that does, in the order that docs/FORMAT.md gives (of a
+ * list: 6, 17, then 7 to 9 of its blocks). Every function below that takes an index looks at the whole of it first, and refuses it with the same
+ * number and place. */
 enum slots_look_field { SLOTS_LOOK_NUMBER, SLOTS_LOOK_PLACE, SLOTS_LOOK_FIELDS };
 uint32_t slots_look(const uint8_t *index, size_t index_len, uint64_t *out, size_t out_len);
 
@@ -112,6 +114,8 @@ uint32_t slots_lend(const uint8_t *index, size_t index_len, uint32_t name, uint6
  *
  * `block` is the B of the index to come. `slots` are the list, lowest first, each once; there may be none. Those up to `cut` are packed
  * as bits and the others as gaps, which changes the bytes and the cost of a search, never what the list holds: 0 is gaps alone, u bits alone.
+ * Bits beyond the cut, in the last byte of bits, are 0. In an index with this u and block, it is the only record with this cut and these slots
+ * that slots_look accepts.
  * Refuses, in this order: 4 (u or block), 15, 13, 12 (place: the length of the record; so a `room` of length 0 is a way to learn it).
  * Accepted: the first `length` bytes of `room` are the record; every byte behind them is as it was. */
 enum slots_write_field { SLOTS_WRITE_NUMBER, SLOTS_WRITE_PLACE, SLOTS_WRITE_LENGTH, SLOTS_WRITE_FIELDS };
@@ -122,8 +126,8 @@ uint32_t slots_write(uint32_t u, uint32_t block, uint32_t cut, const uint32_t *s
  *
  * `u` and `block` are those that the records were written with. The records stand in the first `total` bytes with nothing between them, and
  * `starts` says where each begins, the first being 0; their order numbers the lists.
- * Refuses, in this order: 4 (u, block, or how many starts), 1 (of the finished index), 12 (place: its length), 5, and then 6 to 9 as slots_look
- * would. Accepted: directory and trailer stand behind the records, the first `length` bytes of `room` are an index that slots_look
+ * Refuses, in this order: 4 (u, block, or how many starts), 1 (of the finished index), 12 (place: its length), 5, and then 6 to 9 and 17 as
+ * slots_look would. Accepted: directory and trailer stand behind the records, the first `length` bytes of `room` are an index that slots_look
  * accepts, and every other byte is as it was. */
 enum slots_close_field { SLOTS_CLOSE_NUMBER, SLOTS_CLOSE_PLACE, SLOTS_CLOSE_LENGTH, SLOTS_CLOSE_FIELDS };
 uint32_t slots_close(uint8_t *room, size_t room_len, uint32_t u, uint32_t block, uint32_t total,
@@ -149,6 +153,7 @@ static inline const char *slots_reason(uint32_t number) {
         "the way is neither 0 (plain) nor 1 (by skips)",
         "the cut is above u",
         "the slot to be tested is not in 1..u",
+        "a bit beyond the cut is set",
     };
     return number < sizeof reasons / sizeof reasons[0] ? reasons[number] : "a number that this header does not know";
 }

@@ -70,6 +70,32 @@ static void refusals(uint8_t *index, size_t size) {
     index[54] = 0x01;
 }
 
+/* List 1 cut at 15, not at 16: the lowest bit of its bits, 28 11 at bytes 67 and 68, was slot 16 and is now beyond the cut. Every call that judges
+ * the record refuses it, with list 1 as the place. With that bit cleared the index is sound, and the list has one slot less. */
+static void bits_beyond_the_cut(uint8_t *index, size_t size) {
+    const uint32_t starts[] = {0, 55};
+    uint32_t slots[7] = {9, 9, 9, 9, 9, 9, 9};
+    uint64_t out[SLOTS_ASK_FIELDS];
+    index[55] = 15;
+    IS(slots_look(index, size, out, SLOTS_LOOK_FIELDS), SLOTS_BAD_BITS);
+    IS(out[SLOTS_LOOK_PLACE], 1);
+    IS(slots_ask(index, size, SLOTS_PLAIN, both, 2, slots, 7, out, SLOTS_ASK_FIELDS), SLOTS_BAD_BITS);
+    IS(out[SLOTS_ASK_PLACE], 1);
+    for (int i = 0; i < 7; i++) IS(slots[i], 9);
+    IS(slots_test(index, size, 0, 1, out, SLOTS_TEST_FIELDS), SLOTS_BAD_BITS);
+    IS(out[SLOTS_TEST_PLACE], 1);
+    IS(slots_count(index, size, 0, out, SLOTS_COUNT_FIELDS), SLOTS_BAD_BITS);
+    IS(out[SLOTS_COUNT_PLACE], 1);
+    IS(slots_lend(index, size, 0, out, SLOTS_LEND_FIELDS), 0);
+    IS(slots_close(index, size, 32, 4, 79, starts, 2, out, SLOTS_CLOSE_FIELDS), SLOTS_BAD_BITS);
+    IS(out[SLOTS_CLOSE_PLACE], 1);
+    index[68] = 0x10;
+    IS(slots_count(index, size, 1, out, SLOTS_COUNT_FIELDS), SLOTS_ACCEPTED);
+    IS(out[SLOTS_COUNT_COUNT], 6);
+    index[55] = 16;
+    index[68] = 0x11;
+}
+
 /* `out` takes what fits, and what stands behind the fields stays. An empty slice may be null. */
 static void edges(const uint8_t *index, size_t size) {
     uint64_t out[SLOTS_COUNT_FIELDS + 1] = {99, 99, 99, 99};
@@ -96,9 +122,11 @@ int main(void) {
     for (size_t i = size; i < sizeof room; i++) IS(room[i], 0xAA);
     answers(room, size);
     refusals(room, size);
+    bits_beyond_the_cut(room, size);
     edges(room, size);
     IS(strcmp(slots_reason(SLOTS_BAD_CUT), "the cut is above u"), 0);
-    IS(strcmp(slots_reason(SLOTS_OUTSIDE + 1), "a number that this header does not know"), 0);
+    IS(strcmp(slots_reason(SLOTS_BAD_BITS), "a bit beyond the cut is set"), 0);
+    IS(strcmp(slots_reason(SLOTS_BAD_BITS + 1), "a number that this header does not know"), 0);
     printf("%d checks, %d failed\n", checks, failures);
     return failures != 0;
 }

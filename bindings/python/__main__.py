@@ -1,6 +1,7 @@
 """The command line: look, show, ask, pack and draw, run as `python3 bindings/python COMMAND ..`.
 
-What a command finds goes to standard output. A refusal of the library is found too: it is printed as `refused: ..`, with status 1.
+What a command finds goes to standard output. A refusal of the library is found too: it is printed as `refused: ..`, with status 1. For 17 a second
+line tells the byte.
 A file that cannot be read or written, a wrong text for `pack` and wrong usage are one line `slots: ..` on standard error, with status 2.
 """
 from __future__ import annotations
@@ -22,18 +23,22 @@ COLUMNS = ("list", "cut", "count", "in bits", "in tail", "blocks", "code bytes",
 
 
 def look(given: argparse.Namespace) -> int:
-    slots.look(_bytes(given.file))
+    with _index(given.file) as index:
+        slots.look(index)
     print("accepted")
     return 0
 
 
 def show(given: argparse.Namespace) -> int:
-    _print(_described(reading.read(_bytes(given.file))))
+    with _index(given.file) as index:
+        read = reading.read(index)
+    _print(_described(read))
     return 0
 
 
 def ask(given: argparse.Namespace) -> int:
-    answer = slots.ask(_bytes(given.file), given.way, given.names)
+    with _index(given.file) as index:
+        answer = slots.ask(index, given.way, given.names)
     cost = _many(answer.looks, "look"), _many(answer.codes, "code")
     _print([", ".join((_many(len(answer.slots), "slot"), *cost)), *map(str, answer.slots)])
     return 0
@@ -52,9 +57,35 @@ def draw(given: argparse.Namespace) -> int:
     import picture  # only this command needs it
 
     title = os.path.basename(given.file) if given.title is None else given.title
-    drawn = picture.draw(_bytes(given.file), _printable(title))
+    with _index(given.file) as index:
+        drawn = picture.draw(index, _printable(title))
     saving.save(given.out, drawn.encode("utf-8"), given.file)
     return 0
+
+
+class _Found(slots.Refused):
+    """A refusal with 17, and the byte that the library tells nothing of."""
+
+    def __init__(self, refused: slots.Refused, found: reading.Beyond) -> None:
+        super().__init__(refused.number, refused.place)
+        self.found = found
+
+    def __str__(self) -> str:
+        found = self.found
+        return (f"{super().__str__()}\nwith cut {found.cut}, byte {found.at} of the file (counted from 0) "
+                f"is 0x{found.value:02X}; without the bits beyond the cut it would be 0x{found.clear:02X}")
+
+
+@contextlib.contextmanager
+def _index(path: str) -> Iterator[bytes]:
+    """The bytes of an index, for a call that judges them."""
+    index = _bytes(path)
+    try:
+        yield index
+    except slots.Refused as refused:
+        if refused.refusal is slots.Refusal.BAD_BITS:
+            raise _Found(refused, reading.beyond_cut(index, refused.place)) from None
+        raise
 
 
 def _bytes(path: str) -> bytes:
@@ -108,7 +139,8 @@ FILE: Argument = ("file", {"metavar": "FILE", "help": "an index"})
 # Of each command: what runs it, what it does, more about it with an example, and its arguments.
 COMMANDS: List[Tuple[Callable[[argparse.Namespace], int], str, str, List[Argument]]] = [
     (look, "say whether an index is sound", """\
-Prints `accepted`, or `refused:` with the number, the reason and the place.
+Prints `accepted`, or `refused:` with the number, the reason and the place. Where
+a bit beyond a cut is set (17), a second line tells its byte.
 
 example:
   python3 bindings/python look crates/rack/data/rack.idx""", [FILE]),

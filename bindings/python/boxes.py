@@ -291,7 +291,7 @@ def _bits_box(index: bytes, of: reading.List) -> Box:
     start = of.start + reading.HEAD
     end = start + of.bit_bytes
     held = of.count - of.tail
-    found = _bit_slots(index[start:end], of.cut) if held <= FEW else []
+    found = _bit_slots(index[start:end]) if held <= FEW else []
     span = f"slots 1 to {of.cut:,}:"
     tip = _tip(f"bits of list {of.name:,}", start, end, f"{span} {held:,} set" + _listed(found))
     named = _named(found)
@@ -338,10 +338,11 @@ def _slots_of(block: int, of: reading.List, run: Run) -> int:
     return min(of.tail, block * run.behind) - block * run.first
 
 
-def _bit_slots(bits: bytes, cut: int) -> List[int]:
-    """The slots whose bits are set. Bytes that are zero are passed over at once, since there may be a hundred thousand."""
+def _bit_slots(bits: bytes) -> List[int]:
+    """The slots whose bits are set; none is beyond the cut, since the index was accepted. Bytes that are zero are passed over at once: there may be a
+    hundred thousand."""
     eights = ((8 * at, byte) for at, byte in enumerate(bits) if byte)
-    return [at + bit for at, byte in eights for bit in range(1, 9) if at + bit <= cut and byte << bit & 256]
+    return [at + bit for at, byte in eights for bit in range(1, 9) if byte << bit & 256]
 
 
 def _tail_slots(first: int, codes: bytes) -> List[int]:

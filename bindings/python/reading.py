@@ -2,7 +2,8 @@
 
 Nothing is read before the library has looked at the whole index and accepted it. From there on docs/FORMAT.md says where each number
 stands, and no number can lead out of the index. The index is looked at once: `slots.lend` and `slots.count` would look at the whole of
-it anew for each list, which takes minutes where there are thousands; the tests hold what is read here against them.
+it anew for each list, which takes minutes where there are thousands; the tests hold what is read here against them. (`beyond_cut` reads
+an index that is refused with 17, and says why it may.)
 """
 from __future__ import annotations
 
@@ -12,7 +13,7 @@ from typing import Iterator, List as Several, Tuple
 
 import slots
 
-__all__ = ["HEAD", "TRAILER", "Index", "List", "entries", "read"]
+__all__ = ["HEAD", "TRAILER", "Beyond", "Index", "List", "beyond_cut", "entries", "read"]
 
 HEAD = 12     # bytes of the head of a record
 TRAILER = 24  # bytes of the trailer
@@ -52,6 +53,16 @@ class Index:
         return 4 * len(self.lists)
 
 
+@dataclass(frozen=True)
+class Beyond:
+    """The last byte of the bits of a list, where a bit beyond the cut is set."""
+
+    cut: int
+    at: int     # at which byte of the index it stands
+    value: int
+    clear: int  # its value with no bit set beyond the cut
+
+
 def read(index: bytes) -> Index:
     """What the index says about itself. Raises slots.Refused where the library refuses it.
 
@@ -76,14 +87,26 @@ def entries(index: bytes, of: List) -> Iterator[Tuple[int, int]]:
     return ((slot, offset) for slot, offset in struct.iter_unpack("<II", index[first:first + of.entry_bytes]))
 
 
+def beyond_cut(index: bytes, name: int) -> Beyond:
+    """Which byte is meant where the library refuses the index with 17 and list `name` as the place.
+
+    17 comes behind 1 to 5, and behind 6 of the same list: so the directory, the list's start and its cut can be read, and its bits lie in the index.
+    """
+    directory, = struct.unpack_from("<I", index, len(index) - 8)
+    start, = struct.unpack_from("<I", index, directory + 4 * name)
+    cut, = struct.unpack_from("<I", index, start)
+    at = start + HEAD + cut // 8  # the cut is no multiple of 8, or there would be no such bit
+    return Beyond(cut, at, index[at], index[at] & ~(0xFF >> cut % 8))
+
+
 def _list(index: bytes, block: int, name: int, start: int, end: int) -> List:
     cut, tail, code_bytes = struct.unpack_from("<3I", index, start)
     bit_bytes = (cut + 7) // 8
     bits = index[start + HEAD:start + HEAD + bit_bytes]
     blocks = (tail + block - 1) // block
-    return List(name, start, end - start, cut, _set_bits(bits, cut) + tail, tail, blocks, code_bytes, bit_bytes)
+    return List(name, start, end - start, cut, _set_bits(bits) + tail, tail, blocks, code_bytes, bit_bytes)
 
 
-def _set_bits(bits: bytes, cut: int) -> int:
-    """How many bits of slots 1 to cut are set. Slot 1 has the top bit of the first byte; bits beyond the cut may hold anything and do not count."""
-    return bin(int.from_bytes(bits, "big") >> (8 * len(bits) - cut)).count("1")
+def _set_bits(bits: bytes) -> int:
+    """How many bits are set. Each is a slot: in an index that was accepted, no bit beyond the cut is set."""
+    return bin(int.from_bytes(bits, "big")).count("1")

@@ -87,6 +87,7 @@ class Refusal(enum.IntEnum):
     BAD_WAY = 14
     BAD_CUT = 15
     OUTSIDE = 16
+    BAD_BITS = 17
 
 
 class Way(enum.IntEnum):
@@ -113,6 +114,7 @@ _REASONS: Dict[int, str] = {
     Refusal.BAD_WAY: "the way is neither 0 (plain) nor 1 (by skips)",
     Refusal.BAD_CUT: "the cut is above u",
     Refusal.OUTSIDE: "the slot to be tested is not in 1..u",
+    Refusal.BAD_BITS: "a bit beyond the cut is set",
 }
 
 # What the place means, for the refusals that have one.
@@ -124,6 +126,7 @@ _PLACES: Dict[int, str] = {
     Refusal.NO_LIST: "name at position {}",
     Refusal.NO_ROOM: "room needed: {}",
     Refusal.NOT_RISING: "slot at position {}",
+    Refusal.BAD_BITS: "list {}",
 }
 
 
@@ -233,7 +236,7 @@ class Lent:
 
 
 def look(index: Bytes) -> bool:
-    """Returns True where the index is sound, and raises Refused with one of 1 to 9 where it is not."""
+    """Returns True where the index is sound, and raises Refused with one of 1 to 9 or with 17 where it is not."""
     held = _held("index", index)
     _accepted(_call("slots_look", 2, held, len(held)))
     return True
@@ -246,7 +249,7 @@ def ask(index: Bytes, way: int, names: Iterable[int], room: Optional[int] = None
     room: how many places for slots the library gets. It needs as many as the smallest list named has slots, also where the answer is shorter,
     and refuses with 12 where there are fewer; the place is then the room needed. None gives as many as needed, by asking twice.
 
-    Refuses, in this order: 1 to 9 (the index), 14 (way), 10 (how many names), 11 (a name that is no list), 12.
+    Refuses, in this order: the index (1 to 9 and 17), 14 (way), 10 (how many names), 11 (a name that is no list), 12.
     """
     held = _held("index", index)
     way = _number("way", way)
@@ -266,7 +269,7 @@ def ask(index: Bytes, way: int, names: Iterable[int], room: Optional[int] = None
 def test(index: Bytes, name: int, slot: int) -> Tested:
     """Whether the list holds the slot: true or false, also as `yes`.
 
-    Refuses, in this order: 1 to 9 (the index), 11 (a name that is no list), 16 (a slot that is not in 1..u).
+    Refuses, in this order: the index (1 to 9 and 17), 11 (a name that is no list), 16 (a slot that is not in 1..u).
     """
     held = _held("index", index)
     answer = _accepted(_call("slots_test", 3, held, len(held), _number("name", name), _number("slot", slot)))
@@ -274,7 +277,7 @@ def test(index: Bytes, name: int, slot: int) -> Tested:
 
 
 def count(index: Bytes, name: int) -> Counted:
-    """How many slots the list holds: a number, also as `count`. Refuses, in this order: 1 to 9 (the index), 11 (a name that is no list)."""
+    """How many slots the list holds: a number, also as `count`. Refuses, in this order: the index (1 to 9 and 17), 11 (a name that is no list)."""
     held = _held("index", index)
     return Counted(_accepted(_call("slots_count", 3, held, len(held), _number("name", name)))[2])
 
@@ -296,7 +299,8 @@ def write(u: int, block: int, cut: int, slots: Iterable[int], room: Room) -> Wri
     """Writes the record of one list at the front of `room`; its `length` is how many bytes that are. Every byte behind them stays.
 
     u: how many slots the rack has. block: the B of the index to come. slots: the list, lowest first, each once; there may be none.
-    cut: slots up to it are packed as bits, the others as gaps; 0 is gaps alone, u bits alone. What the list holds does not depend on it.
+    cut: slots up to it are packed as bits, the others as gaps; 0 is gaps alone, u bits alone. What the list holds does not depend on it. Bits
+    beyond the cut, in the last byte of bits, are 0.
     To write behind other records, give `memoryview(room)[at:]`. `record` does the same in a buffer of its own.
 
     Refuses, in this order: 4 (u or block), 15 (cut), 13 (slots), 12 (place: the length of the record).
@@ -310,7 +314,8 @@ def close(room: Room, u: int, block: int, total: int, starts: Iterable[int]) -> 
     u, block: those that the records were written with. total: how many bytes the records have together, with nothing between them.
     starts: where each record begins, the first being 0; their order numbers the lists. `index_of` does the same in a buffer of its own.
 
-    Refuses, in this order: 4 (u, block, or how many starts), 1 (the index would be too long), 12 (place: its length), 5, and 6 to 9 as `look` would.
+    Refuses, in this order: 4 (u, block, or how many starts), 1 (the index would be too long), 12 (place: its length), 5, and 6 to 9 and 17 as
+    `look` would.
     """
     numbers = _number("u", u), _number("block", block), _number("total", total)
     cells = _numbers("starts", starts)

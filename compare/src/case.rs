@@ -75,8 +75,8 @@ pub struct Case {
     pub before: Buffers,
     /// What the case was made to get, where its making tells.
     pub aim: Option<Verdict>,
-    /// The numbers of the first two reasons to refuse it, where there are two.
-    pub order: Option<(u32, u32)>,
+    /// The first two reasons to refuse it, where there are two.
+    pub order: Option<(Verdict, Verdict)>,
     /// Where in a list the fault was put, for the table.
     pub spots: Spots,
     /// The slots that the question must give, where they are known.
@@ -115,7 +115,7 @@ impl Case {
     pub fn refused_by(mut self, reasons: &[Verdict]) -> Case {
         self.aim = Some(*reasons.first().unwrap_or(&(0, 0)));
         if let [first, second, ..] = reasons {
-            self.order = Some((first.0, second.0));
+            self.order = Some((*first, *second));
         }
         self
     }

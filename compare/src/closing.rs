@@ -47,12 +47,12 @@ pub fn close(random: &mut Random) -> Case {
     case
 }
 
-/// The records, every third time with a fault or two.
+/// The records, every second time with a fault or two.
 fn gather(random: &mut Random, shelf: &Shelf) -> Wish {
     let mut records = shelf.records();
     let mut faults = Vec::new();
-    if once_in(random, 3) {
-        let many = random.between(1, 2);
+    if once_in(random, 2) {
+        let many = one_of(random, &[1, 2, 2]);
         (records, faults) = hurt_lists(random, shelf, many);
     }
     let starts = starts(&records);

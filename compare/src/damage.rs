@@ -135,7 +135,7 @@ fn of_lists(random: &mut Random, shelf: &Shelf, kind: &'static str, many: u32) -
 /// Two faults or more, of which the first must be reported.
 pub fn several(random: &mut Random, shelf: &Shelf) -> Damaged {
     let mut damaged = of_lists(random, shelf, "several faults", 2);
-    if once_in(random, 2) {
+    if !once_in(random, 3) {
         return damaged;
     }
     if once_in(random, 2) {

@@ -15,7 +15,8 @@ pub struct Fault {
     list: u32,
     /// Before the blocks, or the block.
     block: Option<usize>,
-    /// 0 is the block's end, 1 its first slot, then its codes.
+    /// Before the blocks 0 is the record's parts, 1 its bits. In a block 0 is its
+    /// end, 1 its first slot, then its codes.
     step: usize,
     number: u32,
     pub spots: Spots,
@@ -126,6 +127,40 @@ fn wrapping(raw: &mut Raw, room: u32, block: u32) -> bool {
     raw.head[1] = room;
     raw.head[2] = length.wrapping_sub(parts);
     parts > length
+}
+
+/// 17: bits behind the cut are set. These are the lowest ones of a byte: one at
+/// either end of them, any one, or some.
+fn hurt_bits(random: &mut Random, hurt: &mut List, list: u32) -> Option<Fault> {
+    let idle = hurt.idle_bits();
+    if idle == 0 {
+        return None;
+    }
+    let highest = idle ^ idle >> 1;
+    let some = random.byte() & idle;
+    let set = match random.below(5) {
+        0 => 1,
+        1 => highest,
+        2 => 1 << random.below(idle.count_ones()),
+        3 if some != 0 => some,
+        _ => idle,
+    };
+    *hurt.bits.last_mut()? |= set;
+    let lowest = (set == 1).then_some("17, lowest unused bit alone");
+    let next = (set == highest).then_some("17, highest unused bit alone");
+    let other = match set.count_ones() {
+        1 => "17, an unused bit between alone",
+        _ => "17, more than one unused bit",
+    };
+    let first = lowest.or(next).unwrap_or(other);
+    let second = lowest.and(next);
+    Some(Fault::within(17, list, None, 1).at(Some(first), second))
+}
+
+/// Whether a record whose head was hurt still has the list's cut and all of its
+/// bits.
+fn keeps_bits(record: &[u8], list: &List) -> bool {
+    record[..4] == list.cut.to_le_bytes() && record.len() >= 12 + list.bits.len()
 }
 
 /// 7: the end of one block, which is the next block's offset, or the first
@@ -262,10 +297,17 @@ fn hurt_list(
     let at = i as u32;
     let mut list = shelf.lists[i].clone();
     let mut faults = Vec::new();
-    let kind = random.below(4);
-    if kind == 0 || list.blocks.is_empty() {
+    let kinds = if list.idle_bits() == 0 { 4 } else { 6 };
+    let kind = random.below(kinds);
+    if kind >= 4 || twice && once_in(random, 3) {
+        faults.extend(hurt_bits(random, &mut list, at));
+    }
+    let bare = list.blocks.is_empty();
+    if kind == 0 || bare && (twice || faults.is_empty()) {
         *record = hurt_head(random, &list, shelf.u, shelf.block);
-        return vec![Fault::within(6, at, None, 0)];
+        faults.retain(|_| keeps_bits(record, &list));
+        faults.push(Fault::within(6, at, None, 0));
+        return faults;
     }
     if twice || kind == 1 {
         faults.extend(hurt_code(random, &mut list, at));

@@ -36,7 +36,7 @@ impl Limits {
     pub fn case(&self, number: u64, random: &mut Random) -> Option<Case> {
         let case = match number {
             0..=16 => self.of_the_longest(number, random),
-            17..=31 => of_many(number, random),
+            17..=34 => of_many(number, random),
             _ => return None,
         };
         Some(case.whole_out(random))
@@ -139,7 +139,10 @@ fn of_many(number: u64, random: &mut Random) -> Case {
         28 => every_slot_counted(),
         29 => every_slot_asked(random, 1),
         30 => every_slot_asked(random, 0),
-        _ => many_looks(random),
+        31 => many_looks(random),
+        32 => long_bits(0, &[]),
+        33 => long_bits(1, &[(17, 0)]),
+        _ => last_of_many_soiled(),
     }
 }
 
@@ -149,14 +152,37 @@ fn crowd(k: usize, aim: &[Verdict]) -> Case {
     Case::new("limit: lists", Call::Look, bytes).refused_by(aim)
 }
 
-/// The last of 4,096 lists, of which each has its own slots.
-fn last_of_many(call: Call) -> Case {
+/// 4,096 lists, of which each has its own slots. The last one's cut is 7.
+fn many_lists() -> Vec<List> {
     let list = |i: u32| {
         let slots: Vec<u32> = (1..=2 + i / 256).chain([20 + i]).collect();
-        List::of(2, i % 8, &slots).bytes()
+        List::of(2, i % 8, &slots)
     };
-    let records: Vec<Vec<u8>> = (0..4_096).map(list).collect();
+    (0..4_096).map(list).collect()
+}
+
+/// The last of these.
+fn last_of_many(call: Call) -> Case {
+    let records: Vec<Vec<u8>> = many_lists().iter().map(List::bytes).collect();
     Case::new("limit: lists", call, index(9_000, 2, &records)).accepted()
+}
+
+/// The same lists, of which the last has the only bit behind its cut set.
+fn last_of_many_soiled() -> Case {
+    let mut lists = many_lists();
+    lists[4_095].bits[0] |= 1;
+    let records: Vec<Vec<u8>> = lists.iter().map(List::bytes).collect();
+    Case::new("limit: lists", Call::Look, index(9_000, 2, &records)).refused_by(&[(17, 4_095)])
+}
+
+/// As many bits as can be but one, all set up to the cut, and that one as given.
+fn long_bits(behind: u8, aim: &[Verdict]) -> Case {
+    let cut = MOST_SLOTS - 1;
+    let all: Vec<u32> = (1..=cut).collect();
+    let mut list = List::of(1, cut, &all);
+    list.bits[131_071] |= behind;
+    let bytes = index(MOST_SLOTS, 1, &[list.bytes()]);
+    Case::new("limit: bits", Call::Look, bytes).refused_by(aim)
 }
 
 /// So many empty lists, closed.

@@ -177,18 +177,6 @@ pub fn some_cut(random: &mut Random, u: u32, slots: &[u32]) -> u32 {
     }
 }
 
-/// A list packed by some cut, perhaps with set bits behind it.
-fn packed(random: &mut Random, block: u32, cut: u32, slots: &[u32]) -> List {
-    let mut list = List::of(block, cut, slots);
-    let idle = list.idle_bits();
-    if idle != 0 && !once_in(random, 3) {
-        if let Some(last) = list.bits.last_mut() {
-            *last |= random.byte() & idle;
-        }
-    }
-    list
-}
-
 /// A shelf of `k` lists.
 pub fn shelf_of(random: &mut Random, u: u32, block: u32, k: u32, limit: u32) -> Shelf {
     let pool = sorted(some_slots(random, u, limit));
@@ -202,7 +190,7 @@ pub fn shelf_of(random: &mut Random, u: u32, block: u32, k: u32, limit: u32) -> 
         let slots = sorted(related(random, u, limit, &pool));
         let beside = if once_in(random, 2) { &pool } else { &slots };
         let cut = some_cut(random, u, beside);
-        shelf.lists.push(packed(random, block, cut, &slots));
+        shelf.lists.push(List::of(block, cut, &slots));
         shelf.held.push(slots);
     }
     shelf
@@ -251,10 +239,7 @@ pub fn gallop(random: &mut Random) -> Shelf {
     let wanted = sorted(wanted);
     let cut = one_of(random, &[0, low.min(u), low / 2, low + 9]).min(u);
     let other = some_cut(random, u, &wanted);
-    let lists = vec![
-        packed(random, block, cut, &long),
-        packed(random, block, other, &wanted),
-    ];
+    let lists = vec![List::of(block, cut, &long), List::of(block, other, &wanted)];
     Shelf {
         u,
         block,

@@ -9,8 +9,6 @@ pub struct Seen {
     pub start: usize,
     pub length: usize,
     pub cut: u32,
-    /// Whether the last bit byte has set bits behind the cut.
-    pub rubbish: bool,
     /// All slots, ascending.
     pub held: Vec<u32>,
     pub blocks: Vec<Vec<Coded>>,
@@ -26,11 +24,14 @@ pub fn k(index: &[u8]) -> u32 {
     number(index, index.len() - 12)
 }
 
-/// One list, by its name.
-pub fn list(index: &[u8], name: u32) -> Seen {
-    let end = index.len();
-    let block = number(index, end - 16) as usize;
-    let directory = number(index, end - 8) as usize;
+/// B.
+pub fn block(index: &[u8]) -> u32 {
+    number(index, index.len() - 16)
+}
+
+/// Where a list's record begins and ends.
+fn ends(index: &[u8], name: u32) -> (usize, usize) {
+    let directory = number(index, index.len() - 8) as usize;
     let at = directory + 4 * name as usize;
     let start = number(index, at) as usize;
     let next = if name + 1 < k(index) {
@@ -38,7 +39,24 @@ pub fn list(index: &[u8], name: u32) -> Seen {
     } else {
         directory
     };
-    record(&index[start..next], start, block)
+    (start, next)
+}
+
+/// One list, by its name.
+pub fn list(index: &[u8], name: u32) -> Seen {
+    let (start, next) = ends(index, name);
+    record(&index[start..next], start, block(index) as usize)
+}
+
+/// The first list that has a bit set behind its cut. Only its last bit byte can
+/// have such bits.
+pub fn rubbish(index: &[u8]) -> Option<u32> {
+    (0..k(index)).find(|&name| {
+        let start = ends(index, name).0;
+        let cut = number(index, start) as usize;
+        let set = |bit: usize| index[start + 12 + bit / 8] << (bit % 8) & 128 != 0;
+        (cut..cut.next_multiple_of(8)).any(set)
+    })
 }
 
 fn record(bytes: &[u8], start: usize, block: usize) -> Seen {
@@ -56,14 +74,12 @@ fn record(bytes: &[u8], start: usize, block: usize) -> Seen {
         blocks.push(decoded(first, many, &codes[offset..]));
     }
     let mut held = set_bits(bits);
-    let rubbish = held.last().is_some_and(|&slot| slot > cut);
     held.retain(|&slot| slot <= cut);
     held.extend(blocks.iter().flatten().map(|coded| coded.0));
     Seen {
         start,
         length: bytes.len(),
         cut,
-        rubbish,
         held,
         blocks,
     }
@@ -103,4 +119,36 @@ fn decoded(first: u32, many: usize, codes: &[u8]) -> Vec<Coded> {
         slots.push((slot, length));
     }
     slots
+}
+
+#[cfg(test)]
+mod tests {
+    use super::*;
+    use crate::pack::{index, List, Raw};
+
+    /// A sound list, then one of such a cut and such bits, then a sound one.
+    fn between(cut: u32, bits: &[u8]) -> Vec<u8> {
+        let sound = List::of(2, 5, &[1, 5, 9, 31]).bytes();
+        let raw = Raw {
+            head: [cut, 0, 0],
+            bits: bits.to_vec(),
+            entries: Vec::new(),
+            codes: Vec::new(),
+        };
+        index(32, 2, &[sound.clone(), raw.bytes(), sound])
+    }
+
+    #[test]
+    fn bits_behind_a_cut() {
+        for last in [0xC0, 0xA0, 0x90, 0x88, 0x84, 0x82, 0x81, 0x40, 0xFF] {
+            assert_eq!(rubbish(&between(9, &[0x80, last])), Some(1));
+        }
+        for last in [0x80, 0x00] {
+            assert_eq!(rubbish(&between(9, &[0x80, last])), None);
+        }
+        assert_eq!(rubbish(&between(15, &[0x00, 0x01])), Some(1));
+        assert_eq!(rubbish(&between(15, &[0xFF, 0xFE])), None);
+        assert_eq!(rubbish(&between(16, &[0xFF, 0xFF])), None);
+        assert_eq!(rubbish(&between(0, &[])), None);
+    }
 }

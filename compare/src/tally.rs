@@ -1,6 +1,6 @@
 //! What a run has met, and whether that is enough.
 
-use crate::case::{Call, Case, Outcome, CALLS};
+use crate::case::{Call, Case, Outcome, Verdict, CALLS};
 use crate::lie::LIES;
 use crate::read;
 use crate::third::Met;
@@ -15,8 +15,23 @@ const ONE_LESS: &str = "refused: room one less than needed";
 const SIXTEEN: &str = "sixteen names";
 const EMPTY: &str = "an empty answer in some room";
 
+/// 17, by the function that gives it: all but writing may.
+const BY_17: [Option<&str>; 7] = [
+    Some("17 in looking"),
+    Some("17 in asking"),
+    Some("17 in testing"),
+    Some("17 in counting"),
+    Some("17 in lending"),
+    None,
+    Some("17 in closing"),
+];
+
+/// Numbers whose places are counted: 6 to 9 and 17 by list, then 11 and 13 by
+/// position.
+const PLACED: [u32; 7] = [6, 7, 8, 9, 17, 11, 13];
+
 /// Where in a list or a record a fault can be put.
-const SPOTS: [&str; 18] = [
+const SPOTS: [&str; 22] = [
     "7, first offset",
     "7, first block",
     "7, middle block",
@@ -35,14 +50,23 @@ const SPOTS: [&str; 18] = [
     "9, first code",
     "9, middle code",
     "9, last code",
+    "17, lowest unused bit alone",
+    "17, highest unused bit alone",
+    "17, an unused bit between alone",
+    "17, more than one unused bit",
 ];
+
+/// In closing 17 is held against the faults of other lists all together.
+const CLOSED_EARLIER: &str = "closing: a fault of an earlier list before 17";
+const CLOSED_LATER: &str = "closing: 17 before a fault of a later list";
 
 /// Where two reasons to refuse were there: whose order it is, the number
 /// reported, and the number of the check that comes behind.
 type Order = (&'static str, u32, u32);
 
-/// Orders that must be met.
-const ORDERS: [(&str, &[(u32, u32)]); 5] = [
+/// Orders that must be met. Two faults of an index's lists are one list's, or by
+/// "lists" those of an earlier and a later one.
+const ORDERS: [(&str, &[(u32, u32)]); 6] = [
     (
         "index",
         &[
@@ -56,20 +80,46 @@ const ORDERS: [(&str, &[(u32, u32)]); 5] = [
             (5, 7),
             (5, 8),
             (5, 9),
-            (6, 7),
-            (6, 8),
-            (6, 9),
-            (7, 6),
+            (5, 17),
+            (6, 17),
+            (17, 7),
+            (17, 8),
+            (17, 9),
             (7, 8),
             (7, 9),
-            (8, 6),
             (8, 7),
             (8, 9),
-            (9, 6),
             (9, 7),
             (9, 8),
             (1, 14),
             (9, 14),
+            (17, 14),
+        ],
+    ),
+    (
+        "lists",
+        &[
+            (6, 7),
+            (6, 8),
+            (6, 9),
+            (6, 17),
+            (7, 6),
+            (7, 8),
+            (7, 9),
+            (7, 17),
+            (8, 6),
+            (8, 7),
+            (8, 9),
+            (8, 17),
+            (9, 6),
+            (9, 7),
+            (9, 8),
+            (9, 17),
+            (17, 6),
+            (17, 7),
+            (17, 8),
+            (17, 9),
+            (17, 17),
         ],
     ),
     (
@@ -93,19 +143,32 @@ const ORDERS: [(&str, &[(u32, u32)]); 5] = [
             (12, 5),
             (12, 6),
             (12, 9),
+            (12, 17),
             (5, 6),
             (5, 8),
+            (5, 17),
+            (6, 17),
+            (17, 7),
         ],
     ),
 ];
 
+/// Whether a number is that of a fault in a list.
+fn of_list(number: u32) -> bool {
+    matches!(number, 6..=9 | 17)
+}
+
 /// Whose order of checks it is: a fault of an index comes first in all that
 /// take one.
-fn group(call: Call, reported: u32) -> &'static str {
+fn group(call: Call, reported: Verdict, behind: Verdict) -> &'static str {
+    let two = of_list(reported.0) && of_list(behind.0) && reported.1 != behind.1;
     match call {
         Call::Write { .. } => "write",
+        Call::Close { .. } if two && behind.0 == 17 => CLOSED_EARLIER,
+        Call::Close { .. } if two && reported.0 == 17 => CLOSED_LATER,
         Call::Close { .. } => "close",
-        _ if reported <= 9 => "index",
+        _ if two => "lists",
+        _ if reported.0 <= 9 || reported.0 == 17 => "index",
         _ => CALLS[call.number() as usize],
     }
 }
@@ -116,9 +179,9 @@ pub struct Tally {
     pub different: u64,
     /// Accepted and refused, by function.
     calls: [[u64; 2]; 7],
-    numbers: [u64; 17],
-    /// 6 to 9 by list, then 11 and 13 by position: first, middle, last.
-    places: [[u64; 3]; 6],
+    numbers: [u64; 18],
+    /// As `PLACED`: first, middle, last.
+    places: [[u64; 3]; PLACED.len()],
     aimed: u64,
     orders: BTreeMap<Order, u64>,
     met: BTreeMap<&'static str, u64>,
@@ -137,8 +200,15 @@ impl Tally {
             self.meet(event);
         }
         if let Some((reported, behind)) = case.order {
-            let order = (group(case.call, reported), reported, behind);
+            let whose = group(case.call, reported, behind);
+            let order = (whose, reported.0, behind.0);
             *self.orders.entry(order).or_default() += 1;
+            if [CLOSED_EARLIER, CLOSED_LATER].contains(&whose) {
+                self.meet(whose);
+            }
+        }
+        if let (17, Some(event)) = (number, BY_17[call]) {
+            self.meet(event);
         }
         self.count_place(case, number, place);
         if let Call::Ask { .. } = case.call {
@@ -160,12 +230,14 @@ impl Tally {
 
     fn count_place(&mut self, case: &Case, number: u32, place: u32) {
         let given = case.before.given.len() as u32;
-        let (row, many) = match (number, case.call) {
-            (6..=9, Call::Close { .. }) => (number as usize - 6, given),
-            (6..=9, _) => (number as usize - 6, read::k(&case.before.bytes)),
-            (11, Call::Ask { .. }) => (4, given),
-            (13, _) => (5, given),
+        let many = match (number, case.call) {
+            (_, Call::Close { .. }) => given,
+            (number, _) if of_list(number) => read::k(&case.before.bytes),
+            (11, Call::Ask { .. }) | (13, _) => given,
             _ => return,
+        };
+        let Some(row) = PLACED.iter().position(|&placed| placed == number) else {
+            return;
         };
         let which = match place {
             0 => 0,
@@ -205,7 +277,7 @@ impl Tally {
             println!("{name:8}  {accepted:8}  {refused:7}");
         }
         println!("number of refusal: how often");
-        let numbers: Vec<String> = (1..17)
+        let numbers: Vec<String> = (1..18)
             .map(|n| format!("{n}: {}", self.numbers[n]))
             .collect();
         println!(
@@ -213,9 +285,8 @@ impl Tally {
             numbers[..8].join("  "),
             numbers[8..].join("  ")
         );
-        println!("place at the first, a middle, the last list (6 to 9) or position (11, 13)");
-        for (row, number) in [6, 7, 8, 9, 11, 13].into_iter().enumerate() {
-            let [first, middle, last] = self.places[row];
+        println!("place at the first, a middle, the last list (6 to 9, 17) or position (11, 13)");
+        for (number, [first, middle, last]) in PLACED.into_iter().zip(self.places) {
             println!("  {number:2}: {first:6} {middle:6} {last:6}");
         }
         println!("number reported before another that was there too: how often");
@@ -241,7 +312,7 @@ impl Tally {
     /// What was not met often enough.
     pub fn missing(&self) -> Vec<String> {
         let mut missing = Vec::new();
-        for number in 1..17 {
+        for number in 1..18 {
             if self.numbers[number] < ENOUGH {
                 missing.push(format!(
                     "number {number} met {} times",
@@ -249,8 +320,8 @@ impl Tally {
                 ));
             }
         }
-        for (row, number) in [6, 7, 8, 9, 11, 13].into_iter().enumerate() {
-            if self.places[row].contains(&0) {
+        for (number, places) in PLACED.into_iter().zip(self.places) {
+            if places.contains(&0) {
                 missing.push(format!("a place of number {number}"));
             }
         }
@@ -277,5 +348,8 @@ impl Tally {
 
 fn required() -> impl Iterator<Item = &'static str> {
     let rooms = [EXACT, ONE_LESS, SIXTEEN, EMPTY];
-    MET.into_iter().chain(rooms).chain(SPOTS)
+    let by_17 = BY_17.into_iter().flatten();
+    let closed = [CLOSED_EARLIER, CLOSED_LATER];
+    let spots = SPOTS.into_iter().chain(by_17).chain(closed);
+    MET.into_iter().chain(rooms).chain(spots)
 }

@@ -4,7 +4,8 @@
 use crate::case::{Call, Case, Outcome};
 use crate::pack::{ending, List};
 use crate::read::{self, Seen};
-use crate::trace::{common, met_by_names, walk, WRITTEN_CUT, WRITTEN_THREE, WRITTEN_TWO};
+use crate::trace::{common, met_by_list, met_by_names, walk};
+use crate::trace::{WRITTEN_CUT, WRITTEN_THREE, WRITTEN_TWO};
 use std::collections::{BTreeMap, BTreeSet};
 
 /// What a case has met on its way.
@@ -22,20 +23,24 @@ pub fn check(case: &Case, outcome: &Outcome) -> Result<Met, String> {
     }
     let index = &case.before.bytes;
     match case.call {
-        Call::Look => Ok(Met::new()),
+        Call::Look => clean(index),
         Call::Ask { way } => question(case, outcome, way),
         Call::Test { name, slot } => {
-            let yes = read::list(index, name).held.contains(&slot);
-            same("yes", outcome.numbers[2], u64::from(yes))
+            let list = accepted(index, name)?;
+            let yes = list.held.contains(&slot);
+            same("yes", outcome.numbers[2], u64::from(yes))?;
+            Ok(met_by_list(&list))
         }
         Call::Count { name } => {
-            let many = read::list(index, name).held.len();
-            same("count", outcome.numbers[2], many as u64)
+            let list = accepted(index, name)?;
+            same("count", outcome.numbers[2], list.held.len() as u64)?;
+            Ok(met_by_list(&list))
         }
         Call::Lend { name } => {
-            let list = read::list(index, name);
+            let list = accepted(index, name)?;
             same("start", outcome.numbers[0], list.start as u64)?;
-            same("length", outcome.numbers[1], list.length as u64)
+            same("length", outcome.numbers[1], list.length as u64)?;
+            Ok(met_by_list(&list))
         }
         Call::Write { block, cut, .. } => {
             let list = List::of(block, cut, &case.before.given);
@@ -44,8 +49,32 @@ pub fn check(case: &Case, outcome: &Outcome) -> Result<Met, String> {
         }
         Call::Close { u, block, total } => {
             let ending = ending(u, block, total, &case.before.given);
-            in_front(case, outcome, total as usize, &ending)
+            in_front(case, outcome, total as usize, &ending)?;
+            clean(&outcome.after.bytes[..outcome.numbers[2] as usize])
         }
+    }
+}
+
+/// No list of an accepted index has a bit set behind its cut.
+fn clean(index: &[u8]) -> Result<Met, String> {
+    match read::rubbish(index) {
+        Some(list) => Err(format!("accepted: a bit behind the cut of list {list}")),
+        None => Ok(Met::new()),
+    }
+}
+
+/// One list of an accepted index. Its record must be the one that its cut and
+/// its slots have.
+fn accepted(index: &[u8], name: u32) -> Result<Seen, String> {
+    clean(index)?;
+    let list = read::list(index, name);
+    let packed = List::of(read::block(index), list.cut, &list.held);
+    if packed.bytes() == index[list.start..list.start + list.length] {
+        Ok(list)
+    } else {
+        Err(format!(
+            "accepted: another record than that of list {name}'s slots"
+        ))
     }
 }
 
@@ -89,9 +118,8 @@ fn met_by_writing(list: &List) -> Met {
 fn question(case: &Case, outcome: &Outcome, way: u32) -> Result<Met, String> {
     let names = &case.before.given;
     let mut read: BTreeMap<u32, Seen> = BTreeMap::new();
-    for &name in names {
-        read.entry(name)
-            .or_insert_with(|| read::list(&case.before.bytes, name));
+    for name in BTreeSet::from_iter(names.iter().copied()) {
+        read.insert(name, accepted(&case.before.bytes, name)?);
     }
     let lists: Vec<&Seen> = names.iter().map(|name| &read[name]).collect();
     let slots = common(&lists);
@@ -112,6 +140,7 @@ fn question(case: &Case, outcome: &Outcome, way: u32) -> Result<Met, String> {
     same("looks", outcome.numbers[3], walk.looks)?;
     same("codes", outcome.numbers[4], walk.codes)?;
     let mut met = met_by_names(names, &lists);
+    met.extend(lists.iter().flat_map(|list| met_by_list(list)));
     met.extend(walk.met);
     Ok(met)
 }

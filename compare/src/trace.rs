@@ -6,7 +6,8 @@ use std::collections::BTreeSet;
 
 pub const TWO_BYTES: &str = "a code of two bytes read";
 pub const THREE_BYTES: &str = "a code of three bytes read";
-pub const RUBBISH: &str = "set bits behind a cut inside a byte";
+pub const INSIDE: &str = "accepted: a cut inside a byte";
+pub const BYTE_END: &str = "accepted: a cut at a byte's end, its bit set";
 pub const UNSORTED: &str = "three different counts, unsorted";
 pub const TIES: &str = "two lists of one count";
 pub const TWICE: &str = "a list named twice";
@@ -23,10 +24,11 @@ pub const WRITTEN_THREE: &str = "written: a code of three bytes";
 pub const WRITTEN_CUT: &str = "written: a cut inside a byte";
 
 /// What must be met somewhere in a run.
-pub const MET: [&str; 16] = [
+pub const MET: [&str; 17] = [
     TWO_BYTES,
     THREE_BYTES,
-    RUBBISH,
+    INSIDE,
+    BYTE_END,
     UNSORTED,
     TIES,
     TWICE,
@@ -69,6 +71,17 @@ pub fn common(lists: &[&Seen]) -> Vec<u32> {
     common.into_iter().collect()
 }
 
+/// What the bits of an accepted list are like.
+pub fn met_by_list(list: &Seen) -> BTreeSet<&'static str> {
+    let mut met = BTreeSet::new();
+    if !list.cut.is_multiple_of(8) {
+        met.insert(INSIDE);
+    } else if list.held.binary_search(&list.cut).is_ok() {
+        met.insert(BYTE_END);
+    }
+    met
+}
+
 /// What the names and their lists are like.
 pub fn met_by_names(names: &[u32], lists: &[&Seen]) -> BTreeSet<&'static str> {
     let mut met = BTreeSet::new();
@@ -76,9 +89,6 @@ pub fn met_by_names(names: &[u32], lists: &[&Seen]) -> BTreeSet<&'static str> {
     let different: BTreeSet<usize> = counts.iter().copied().collect();
     let named: BTreeSet<u32> = names.iter().copied().collect();
     let pairs: BTreeSet<(u32, usize)> = names.iter().copied().zip(counts.clone()).collect();
-    if lists.iter().any(|list| list.rubbish) {
-        met.insert(RUBBISH);
-    }
     if different.len() >= 3 && !counts.is_sorted() {
         met.insert(UNSORTED);
     }

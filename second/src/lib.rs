@@ -1,4 +1,5 @@
-//! A second implementation of the slot index, written from the paper alone.
+//! A second implementation of the slot index, written from the paper and the
+//! orders that followed it alone.
 //!
 //! It exists so that another implementation can be held against it. Everything
 //! is done in the most direct way: a list is cut into its parts, each part is

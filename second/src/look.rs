@@ -94,7 +94,7 @@ pub fn spans(starts: &[u32], directory: u32) -> Result<Vec<(usize, usize)>, Verd
     Ok(spans)
 }
 
-/// Rows 6 to 9, list by list.
+/// Rows 6 to 9 and 17, list by list.
 pub fn lists<'a>(
     bytes: &'a [u8],
     spans: &[(usize, usize)],
@@ -110,10 +110,12 @@ pub fn lists<'a>(
     Ok(records)
 }
 
-/// One list. The checks stand one after the other, so that another can be put
-/// between its parts and its blocks.
+/// One list: its parts, the bits that no slot has, then its blocks.
 fn list(bytes: &[u8], u: u32, block: u32) -> Result<Record<'_>, u32> {
     let record = Record::split(bytes, u, block).ok_or(6u32)?;
+    if record.has_rubbish() {
+        return Err(17);
+    }
     blocks(&record, u)?;
     Ok(record)
 }

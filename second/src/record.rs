@@ -90,10 +90,18 @@ impl<'a> Record<'a> {
         &self.codes[self.offset(b) as usize..self.end(b) as usize]
     }
 
-    /// Whether the bit of slot `x` is set, for 1 up to the cut.
+    /// Whether bit `x` is set, for 1 up to the last bit there is. Up to the cut
+    /// it is the bit of slot `x`.
     pub fn bit(&self, x: u32) -> bool {
         let i = x as usize - 1;
         self.bits[i / 8] & (0x80 >> (i % 8)) != 0
+    }
+
+    /// Whether row 17 of the table refuses the record: a bit is set that lies
+    /// behind the cut and so is no slot's.
+    pub fn has_rubbish(&self) -> bool {
+        let there_are = 8 * self.bits.len() as u32;
+        (self.cut + 1..=there_are).any(|x| self.bit(x))
     }
 
     /// The slots of block `b`, once the record has been found sound.

@@ -39,7 +39,8 @@ fn judge(u: u32, block: u32, cut: u32, slots: &[u32]) -> Result<(), Verdict> {
     Ok(())
 }
 
-/// The bytes of a record whose slots and sizes have been judged.
+/// The bytes of a record whose slots and sizes have been judged. Bits behind the
+/// cut stay zero: row 17 refuses any other.
 fn packed(block: u32, cut: u32, slots: &[u32]) -> Vec<u8> {
     let mut bits = vec![0u8; cut.div_ceil(8) as usize];
     let mut tail = Vec::new();

@@ -40,7 +40,8 @@ def changed(at: int, value: int, length: int = 4, index: bytes = EXAMPLE) -> byt
     return index[:at] + value.to_bytes(length, "little") + index[at + length:]
 
 
-# One index for each of the refusals 1 to 9, with the place that the table of docs/FORMAT.md gives. The trailer begins at byte 87, record 1 at 55.
+# One index for each of the refusals 1 to 9 and 17, with the place that the table of docs/FORMAT.md gives. The trailer begins at byte 87, record 1
+# at 55.
 DAMAGED: List[Tuple[int, int, bytes]] = [
     (1, 0, EXAMPLE[-23:]),              # 23 bytes
     (2, 0, changed(110, 0x55, 1)),      # SLOU
@@ -51,7 +52,9 @@ DAMAGED: List[Tuple[int, int, bytes]] = [
     (7, 1, changed(73, 1)),             # list 1: the codes of block 0 begin at 1
     (8, 1, changed(77, 0x83, 1)),       # list 1: the code 83 00, which ends in a zero byte
     (9, 1, changed(69, 16)),            # list 1: its block begins with slot 16, not above the cut
+    (17, 1, changed(55, 15)),           # list 1: cut 15, so that the lowest bit of 28 11, slot 16, is beyond it
 ]
+BEYOND = DAMAGED[-1][2]
 
 
 @dataclass(frozen=True)

@@ -15,7 +15,7 @@ import xml.etree.ElementTree
 
 import slots
 
-from .common import DAMAGED, EXAMPLE, LIST_0, LIST_1, PYTHON, RACK, REPOSITORY, SURROUNDINGS
+from .common import BEYOND, DAMAGED, EXAMPLE, LIST_0, LIST_1, PYTHON, RACK, REPOSITORY, SURROUNDINGS
 
 COMMANDS = ["look", "show", "ask", "pack", "draw"]
 
@@ -28,6 +28,12 @@ list  cut  count  in bits  in tail  blocks  code bytes  bytes
    1   16      7        4        3       1           2     24
 
 directory 8 bytes, trailer 24 bytes
+"""
+
+# What is said of BEYOND, in which the second of the two bytes of bits of list 1 is byte 68; with cut 15, seven of its bits have slots.
+SAID = """\
+refused: 17: a bit beyond the cut is set (list 1)
+with cut 15, byte 68 of the file (counted from 0) is 0x11; without the bits beyond the cut it would be 0x10
 """
 
 
@@ -68,7 +74,7 @@ class Look(Case):
         self.prints(0, "accepted\n", "look", "rack.idx")
 
     def test_refused(self):
-        for number, place, index in DAMAGED:
+        for number, place, index in DAMAGED[:-1]:  # of the last, 17, more is said: BeyondTheCut has it
             self.prints(1, f"refused: {slots.Refused(number, place)}\n", "look", self.file("bad.idx", index))
 
     def test_the_words(self):
@@ -83,6 +89,52 @@ class Look(Case):
             with open(self.folder / "large", "wb") as file:
                 file.truncate(size)
             self.prints(1, "refused: 1: the index has fewer than 24 or more than 16,777,216 bytes\n", "look", "large")
+
+
+class BeyondTheCut(Case):
+    """A list that has bits set beyond its cut is named, and the byte, by every command that reads an index."""
+
+    def test_look(self):
+        self.prints(1, SAID, "look", self.file("bad.idx", BEYOND))
+
+    def test_show(self):
+        self.prints(1, SAID, "show", self.file("bad.idx", BEYOND))
+
+    def test_ask(self):
+        self.file("bad.idx", BEYOND)
+        for names in ["0", "1"], ["0"], ["9"], []:  # also where the list is not named, and where the names are wrong
+            for way in "plain", "skips":
+                self.prints(1, SAID, "ask", "bad.idx", way, *names)
+
+    def test_draw(self):
+        self.prints(1, SAID, "draw", self.file("bad.idx", BEYOND), "new.svg")
+        self.assertEqual(self.files(), ["bad.idx", "rack.idx"])
+        self.file("old.svg", b"as it was")
+        self.prints(1, SAID, "draw", "bad.idx", "old.svg")
+        self.assertEqual((self.folder / "old.svg").read_bytes(), b"as it was")
+
+    def test_pack_replaces_it(self):
+        # Bits alone, as in Pack, up to cuts 30 and 31: two bits and one bit of the last byte have no slot.
+        self.file("lists.txt", Pack.LISTS.encode())
+        self.file("bad.idx", BEYOND)
+        self.assertEqual(self.run_it("pack", "lists.txt", "bad.idx").returncode, 0)
+        index = (self.folder / "bad.idx").read_bytes()
+        self.assertEqual((index[12:16], index[28:32]), (bytes.fromhex("9D 13 50 F4"), bytes.fromhex("28 11 00 46")))
+        self.prints(0, "accepted\n", "look", "bad.idx")
+
+    def test_what_is_said_makes_the_file_sound(self):
+        # Of three lists with 28 10 up to cut 13, at bytes 12, 26 and 40, the second has 17 for 10, and the third 11.
+        sound = slots.index_of(32, 4, [slots.record(32, 4, 13, [3, 5, 12])] * 3)
+        self.file("bad.idx", sound[:27] + b"\x17" + sound[28:41] + b"\x11" + sound[42:])
+        for name, at, value in (1, 27, "17"), (2, 41, "11"):
+            self.prints(1, f"refused: 17: a bit beyond the cut is set (list {name})\n"
+                           f"with cut 13, byte {at} of the file (counted from 0) is 0x{value}; without the bits beyond the cut it would be 0x10\n",
+                           "look", "bad.idx")
+            with open(self.folder / "bad.idx", "r+b") as file:
+                file.seek(at)
+                file.write(b"\x10")
+        self.prints(0, "accepted\n", "look", "bad.idx")
+        self.assertEqual((self.folder / "bad.idx").read_bytes(), sound)
 
 
 class Show(Case):
@@ -352,6 +404,8 @@ class Share(Case):
     def test_refusals(self):
         self.file("bad.idx", DAMAGED[7][2])
         self.assertEqual(self.run_share("bad.idx"), ("", "8: a code is damaged, or bytes remain behind the codes of a block (list 1)\n", 1))
+        self.file("bits.idx", BEYOND)
+        self.assertEqual(self.run_share("bits.idx"), ("", "17: a bit beyond the cut is set (list 1)\n", 1))
         self.file("one.idx", slots.index_of(9, 9, [slots.record(9, 9, 0, [4])]))
         self.assertEqual(self.run_share("one.idx"), ("", "11: there is no list of that name (name at position 1)\n", 1))
 

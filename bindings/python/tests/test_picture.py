@@ -212,14 +212,12 @@ class Boxes(unittest.TestCase):
             named = f": {' '.join(f'{slot:,}' for slot in low)}" if 0 < len(low) <= FEW else ""
             self.assertTrue(box.tip.endswith(f"\nslots 1 to {cut:,}: {len(low):,} set{named}"), box.tip)
 
-    def test_bits_beyond_the_cut_do_not_count(self):
-        # Slot 1 of five has the top bit; the lowest three bits of the byte are beyond the cut, and may hold anything.
-        record = bytearray(slots.record(12, 4, 5, [1]))
-        self.assertEqual(record[12], 0x80)
-        record[12] = 0x87
-        index = slots.index_of(12, 4, [record])
-        self.assertTrue(all_boxes(index, FINE)[1].tip.endswith("slots 1 to 5: 1 set: 1"))
-        self.assertEqual(rows(sections(index)[1])[0].notes, ("cut 5", "1 slot", "13 bytes"))
+    def test_a_cut_inside_a_byte(self):
+        # Slot 1 of five has the top bit, slot 5 the fifth; the lowest three bits of the byte are beyond the cut.
+        index = index_of(12, 4, (5, [1, 5]))
+        self.assertEqual(index[12], 0b10001000)
+        self.assertTrue(all_boxes(index, FINE)[1].tip.endswith("slots 1 to 5: 2 set: 1 5"))
+        self.assertEqual(rows(sections(index)[1])[0].notes, ("cut 5", "2 slots", "13 bytes"))
 
     def test_codes_of_two_and_three_bytes(self):
         # Differences less one: 127 (7F), 128 (80 01), 16,383 (FF 7F), 16,384 (80 80 01), and 1,015,548 (FC FD 3D): 124 + 125 * 128 + 61 * 16,384.

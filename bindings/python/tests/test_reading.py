@@ -7,7 +7,7 @@ import unittest
 import reading
 import slots
 
-from .common import DAMAGED, EXAMPLE, changed, random_rack
+from .common import BEYOND, DAMAGED, EXAMPLE, changed, random_rack
 
 
 def code_bytes(value: int) -> int:
@@ -29,9 +29,9 @@ class Example(unittest.TestCase):
         self.assertEqual(list(reading.entries(EXAMPLE, first)), [(1, 0), (8, 3), (18, 6), (27, 9)])
         self.assertEqual(list(reading.entries(EXAMPLE, second)), [(26, 0)])
 
-    def test_bits_beyond_the_cut_do_not_count(self):
-        # Slots 3, 5 and 12, cut at 13, so that the three lowest bits of the second byte belong to no slot; they are set.
-        head, bits = bytes([13]) + bytes(11), bytes([0b00101000, 0b00010111])
+    def test_a_cut_inside_a_byte(self):
+        # Slots 3, 5 and 12, cut at 13, so that the three lowest bits of the second byte belong to no slot.
+        head, bits = bytes([13]) + bytes(11), bytes([0b00101000, 0b00010000])
         index = slots.index_of(32, 4, [head + bits])
         read, = reading.read(index).lists
         self.assertEqual((read.count, read.tail, read.bit_bytes), (3, 0, 2))
@@ -44,6 +44,22 @@ class Refusing(unittest.TestCase):
             with self.assertRaises(slots.Refused) as caught:
                 reading.read(index)
             self.assertEqual((caught.exception.number, caught.exception.place), (number, place))
+
+    def test_where_a_bit_is_beyond_the_cut(self):
+        # The bits of list 1 are bytes 67 and 68. Up to cut 15 the second has its seven upper bits.
+        self.assertEqual(reading.beyond_cut(BEYOND, 1), reading.Beyond(cut=15, at=68, value=0x11, clear=0x10))
+
+    def test_whichever_bits_they_are(self):
+        # One list, at byte 0, with every bit of its two bytes set. The second byte has slots 9 to 16, slot 9 on top.
+        clear = {9: 0x80, 10: 0xC0, 11: 0xE0, 12: 0xF0, 13: 0xF8, 14: 0xFC, 15: 0xFE}
+        for cut, value in clear.items():
+            sound = slots.index_of(16, 1, [slots.record(16, 1, cut, range(1, cut + 1))])
+            index = changed(13, 0xFF, 1, sound)
+            with self.assertRaises(slots.Refused) as caught:
+                reading.read(index)
+            self.assertEqual((caught.exception.number, caught.exception.place), (17, 0))
+            self.assertEqual(reading.beyond_cut(index, 0), reading.Beyond(cut, 13, 0xFF, value))
+            self.assertEqual(changed(13, value, 1, index), sound)
 
     def test_no_damage_to_one_byte_leads_out_of_the_index(self):
         for at in range(len(EXAMPLE)):
@@ -75,6 +91,24 @@ class Racks(unittest.TestCase):
                 self.assertEqual(each.length, reading.HEAD + each.bit_bytes + each.entry_bytes + each.code_bytes)
             self.assertEqual(index.directory_start, sum(each.length for each in index.lists))
             self.assertEqual(index.size, index.directory_start + index.directory_bytes + reading.TRAILER)
+
+    def test_against_bits_that_are_set_beyond_a_cut(self):
+        chance = random.Random(6)
+        found = 0
+        for _ in range(200):
+            rack = random_rack(chance)
+            for each in reading.read(rack.index).lists:
+                if each.cut % 8 == 0:
+                    continue  # there is no such bit
+                at = each.start + reading.HEAD + each.bit_bytes - 1
+                bit = 1 << chance.randrange(8 - each.cut % 8)
+                index = changed(at, rack.index[at] | bit, 1, rack.index)
+                with self.assertRaises(slots.Refused) as caught:
+                    reading.read(index)
+                self.assertEqual((caught.exception.number, caught.exception.place), (17, each.name))
+                self.assertEqual(reading.beyond_cut(index, each.name), reading.Beyond(each.cut, at, index[at], rack.index[at]))
+                found += 1
+        self.assertGreater(found, 100)
 
     def test_against_the_slots(self):
         chance = random.Random(5)

@@ -10,7 +10,7 @@ from unittest import mock
 import slots
 from slots import Refusal, Refused, Way
 
-from .common import DAMAGED, EXAMPLE, HEADER, LIST_0, LIST_1, RECORD_0, RECORD_1, changed
+from .common import BEYOND, DAMAGED, EXAMPLE, HEADER, LIST_0, LIST_1, RECORD_0, RECORD_1, changed
 
 
 class Case(unittest.TestCase):
@@ -24,7 +24,7 @@ class Case(unittest.TestCase):
 class Numbers(Case):
     """Each number comes from every function that can give it, with its place."""
 
-    def test_1_to_9_from_every_function_that_takes_an_index(self):
+    def test_1_to_9_and_17_from_every_function_that_takes_an_index(self):
         for number, place, index in DAMAGED:
             with self.subTest(number=number):
                 self.refused(number, place, slots.look, index)
@@ -48,10 +48,28 @@ class Numbers(Case):
         self.refused(5, 0, slots.close, bytearray(111), 32, 4, 79, [1, 55])
         self.refused(5, 0, slots.close, bytearray(111), 32, 4, 79, [0, 68])
 
-    def test_6_to_9_of_closing(self):
+    def test_6_to_9_and_17_of_closing(self):
         for number, place, index in DAMAGED[5:]:
             self.refused(number, place, slots.close, bytearray(index[:79] + bytes(32)), 32, 4, 79, [0, 55])
             self.refused(number, place, slots.index_of, 32, 4, [index[:55], index[55:79]])
+
+    def test_17_for_every_bit_beyond_the_cut_and_for_no_other(self):
+        # Lists of one slot, as bits. Slot 1 has the top bit of the first byte.
+        for cut in range(25):
+            width = (cut + 7) // 8 * 8
+            for slot in range(1, width + 1):
+                record = bytes([cut]) + bytes(11) + (1 << width - slot).to_bytes(width // 8, "big")
+                with self.subTest(cut=cut, slot=slot):
+                    if slot <= cut:
+                        self.assertEqual(slots.ask(slots.index_of(24, 4, [record]), Way.PLAIN, [0]).slots, [slot])
+                    else:
+                        self.refused(17, 0, slots.index_of, 24, 4, [record])
+
+    def test_what_17_refuses_is_sound_without_the_bit(self):
+        index = changed(68, 0x10, 1, BEYOND)
+        self.assertTrue(slots.look(index))
+        self.assertEqual(slots.ask(index, Way.PLAIN, [1]).slots, [slot for slot in LIST_1 if slot != 16])
+        self.assertEqual(slots.lend(index, 1).record, slots.record(32, 4, 15, [slot for slot in LIST_1 if slot != 16]))
 
     def test_4_and_12_and_13_and_15_of_writing(self):
         for function, room in (slots.write, [bytearray(55)]), (slots.record, []):
@@ -151,27 +169,28 @@ class Words(Case):
             (Refused(11, 1), "11: there is no list of that name (name at position 1)"),
             (Refused(12, 7), "12: the room is too small (room needed: 7)"),
             (Refused(13, 0), "13: the slots to be written do not rise strictly within 1..u (slot at position 0)"),
+            (Refused(17, 1), "17: a bit beyond the cut is set (list 1)"),
         ]:
             self.assertEqual(str(refused), said)
         for number in 1, 2, 4, 5, 14, 15, 16:
             self.assertEqual(str(Refused(number, 0)), f"{number}: {Refused(number, 0).reason}")
 
     def test_a_number_of_a_newer_library(self):
-        for number in 0, 17, 2**32 - 1:
+        for number in 0, 18, 2**32 - 1:
             refused = Refused(number, 3)
             self.assertEqual((refused.number, refused.place, refused.refusal), (number, 3, None))
             self.assertEqual(refused.reason, "a number that this module does not know")
             self.assertEqual(str(refused), f"{number}: a number that this module does not know")
-        with mock.patch("slots._call", return_value=[17, 3]):
-            self.refused(17, 3, slots.look, EXAMPLE)
+        with mock.patch("slots._call", return_value=[18, 3]):
+            self.refused(18, 3, slots.look, EXAMPLE)
 
     def test_a_refusal_has_its_member(self):
         refused = self.refused(12, 7, slots.ask, EXAMPLE, Way.BY_SKIPS, [0, 1], 6)
         self.assertIs(refused.refusal, Refusal.NO_ROOM)
-        self.assertEqual([int(each) for each in Refusal], list(range(1, 17)))
+        self.assertEqual([int(each) for each in Refusal], list(range(1, 18)))
 
     def test_pickles(self):
-        for refused in Refused(12, 7), Refused(17, 0):
+        for refused in Refused(12, 7), Refused(18, 0):
             again = pickle.loads(pickle.dumps(refused))
             self.assertEqual((type(again), vars(again), str(again)), (Refused, vars(refused), str(refused)))
 
@@ -191,7 +210,7 @@ class Header(unittest.TestCase):
 
     def test_reasons_are_those_of_slots_reason(self):
         words = re.findall(r'^ +"(.*)",$', self.text[self.text.index("*slots_reason("):], re.M)
-        self.assertEqual(words, ["accepted"] + [Refused(number, 0).reason for number in range(1, 17)])
+        self.assertEqual(words, ["accepted"] + [Refused(number, 0).reason for number in range(1, 18)])
 
     def test_ways(self):
         self.assertEqual(re.findall(r"SLOTS_(\w+) = (\d+)", self.enum("slots_way")), [(way.name, str(int(way))) for way in Way])
@@ -229,6 +248,25 @@ class Order(Case):
     def test_looking(self):
         # Both records are damaged: the first fault of the first list is the answer. Byte 54 is the last code of list 0.
         self.refused(8, 0, slots.look, changed(54, 0x81, 1, changed(69, 16)))
+
+    def test_17_of_looking(self):
+        sound = changed(68, 0x10, 1, BEYOND)
+        self.refused(6, 1, slots.look, changed(63, 3, 4, BEYOND))  # one code byte more than there are: 6 comes before
+        # What is wrong with its block comes behind: the codes begin at 1; a code ends in a zero byte; its first slot is not above the cut.
+        for number, at, value, length in (7, 73, 1, 4), (8, 77, 0x83, 1), (9, 69, 15, 4):
+            self.refused(number, 1, slots.look, changed(at, value, length, sound))
+            self.refused(17, 1, slots.look, changed(at, value, length, BEYOND))
+        self.refused(8, 0, slots.look, changed(54, 0x81, 1, BEYOND))  # the list before
+
+    def test_17_of_several_lists(self):
+        # Three records of 14 bytes: a head, and 28 10 for slots 3 5 12 up to cut 13.
+        sound = slots.index_of(32, 4, [slots.record(32, 4, 13, [3, 5, 12])] * 3)
+        self.assertEqual((len(sound), sound[12:14], slots.look(sound)), (3 * 14 + 3 * 4 + 24, b"\x28\x10", True))
+        last = changed(41, 0x17, 1, sound)
+        self.refused(17, 2, slots.look, last)
+        self.refused(17, 1, slots.look, changed(27, 0x11, 1, last))
+        self.refused(17, 1, slots.look, changed(27, 0x11, 1, changed(28, 33, 4, sound)))  # before the cut of list 2, which is above u
+        self.refused(6, 0, slots.look, changed(27, 0x11, 1, changed(0, 33, 4, sound)))    # behind that of list 0
 
     def test_asking(self):
         self.refused(14, 0, slots.ask, EXAMPLE, 2, [9] * 17, 0)

@@ -15,6 +15,7 @@ use crate::refusal::{narrow, verdict, Refusal, Refused};
 /// - `cut`, 0 to u, is how the list is packed: its slots up to the cut become bits, and those above it
 ///   gaps. 0 is gaps alone, and u bits alone. A crowded part of the rack is short as bits, and a thin
 ///   one as gaps. The choice changes the bytes and what a search costs, never what the list holds.
+///   Bits beyond the cut, in the last byte of bits, are 0.
 /// - `slots` are the list, lowest first, each once, all from 1 to u. There may be none.
 /// - `room` is where the record is to stand. What it holds does not matter. No record has more than
 ///   11,665,420 bytes. An empty room is a way to learn how many it has.
@@ -60,8 +61,9 @@ pub fn write(u: u32, block: u32, cut: u32, slots: &[u32], room: &mut [u8]) -> Re
 /// In this order: [`BadRange`](Refusal::BadRange), of `u`, `block` or the number of starts;
 /// [`BadSize`](Refusal::BadSize), where the index would have more than 16,777,216 bytes;
 /// [`NoRoom`](Refusal::NoRoom), with its length; [`BadParts`](Refusal::BadParts), of the starts; then
-/// [`BadHead`](Refusal::BadHead), [`BadBlock`](Refusal::BadBlock), [`BadCode`](Refusal::BadCode) or
-/// [`BadSlot`](Refusal::BadSlot), as [`look`](crate::look) would find them. `room` is then as it was.
+/// [`BadHead`](Refusal::BadHead), [`BadBits`](Refusal::BadBits), [`BadBlock`](Refusal::BadBlock),
+/// [`BadCode`](Refusal::BadCode) or [`BadSlot`](Refusal::BadSlot), as [`look`](crate::look) would
+/// find them. `room` is then as it was.
 pub fn close(room: &mut [u8], u: u32, block: u32, total: u32, starts: &[u32]) -> Result<Written, Refused> {
     let fields = raw::close(room, u, block, total, starts);
     written(fields, room)

@@ -14,8 +14,9 @@ use crate::refusal::{narrow, verdict, Refusal, Refused};
 /// [`BadSize`](Refusal::BadSize), [`BadTag`](Refusal::BadTag), [`BadEdition`](Refusal::BadEdition),
 /// [`BadRange`](Refusal::BadRange) and [`BadParts`](Refusal::BadParts), in this order, of the index as
 /// a whole. Then, list by list, the first fault there is: [`BadHead`](Refusal::BadHead),
-/// [`BadBlock`](Refusal::BadBlock), [`BadCode`](Refusal::BadCode) or [`BadSlot`](Refusal::BadSlot),
-/// with the list as the place. "The order of looking" in docs/FORMAT.md has every detail.
+/// [`BadBits`](Refusal::BadBits), and of its blocks [`BadBlock`](Refusal::BadBlock),
+/// [`BadCode`](Refusal::BadCode) or [`BadSlot`](Refusal::BadSlot), with the list as the place. "The
+/// order of looking" in docs/FORMAT.md has every detail.
 pub fn look(index: &[u8]) -> Result<(), Refused> {
     let [number, place] = raw::look(index);
     verdict(number, place)

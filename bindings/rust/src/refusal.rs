@@ -48,6 +48,8 @@ pub enum Refusal {
     BadCut,
     /// 16: the slot to be tested is not from 1 to u.
     Outside,
+    /// 17: a bit beyond the cut is set, in the last byte of a record's bits. The place is the list.
+    BadBits,
     /// A number that is none of these, from a newer library. A refusal like the others.
     Unknown(u32),
 }
@@ -72,6 +74,7 @@ impl Refusal {
             Refusal::BadWay => 14,
             Refusal::BadCut => 15,
             Refusal::Outside => 16,
+            Refusal::BadBits => 17,
             Refusal::Unknown(number) => number,
         }
     }
@@ -99,6 +102,7 @@ impl Refusal {
             Refusal::BadWay => "the way is neither 0 (plain) nor 1 (by skips)",
             Refusal::BadCut => "the cut is above u",
             Refusal::Outside => "the slot to be tested is not in 1..u",
+            Refusal::BadBits => "a bit beyond the cut is set",
             Refusal::Unknown(_) => "a number that this package does not know",
         }
     }
@@ -125,6 +129,7 @@ impl From<u32> for Refusal {
             14 => Refusal::BadWay,
             15 => Refusal::BadCut,
             16 => Refusal::Outside,
+            17 => Refusal::BadBits,
             other => Refusal::Unknown(other),
         }
     }
@@ -154,7 +159,7 @@ impl fmt::Display for Refused {
         write!(f, "{}: {}", self.number(), self.refusal.reason())?;
         let place = self.place;
         match self.refusal {
-            Refusal::BadHead | Refusal::BadBlock | Refusal::BadCode | Refusal::BadSlot => {
+            Refusal::BadHead | Refusal::BadBlock | Refusal::BadCode | Refusal::BadSlot | Refusal::BadBits => {
                 write!(f, " (list {place})")
             }
             Refusal::NoList => write!(f, " (name at position {place})"),

@@ -24,7 +24,7 @@ fn the_words_are_those_of_the_header() {
     let table = between(&header, "reasons[] = {", "};");
     // Of a text cut at its quotes every second piece was inside of them.
     let words: Vec<&str> = table.split('"').skip(1).step_by(2).collect();
-    assert_eq!(words.len(), 17);
+    assert_eq!(words.len(), 18);
     assert_eq!(words[0], "accepted");
     for (number, words) in (1..).zip(&words[1..]) {
         assert_eq!(Refusal::from(number).reason(), *words, "{number}");
@@ -52,6 +52,7 @@ fn the_numbers_are_those_of_the_header() {
         ("BAD_WAY", Refusal::BadWay),
         ("BAD_CUT", Refusal::BadCut),
         ("OUTSIDE", Refusal::Outside),
+        ("BAD_BITS", Refusal::BadBits),
     ];
     for (name, refusal) in expected {
         let number = refusal.number();

@@ -47,6 +47,8 @@ fn of_a_record() {
     let head = "the head of a record does not fit u or the size of the record";
     expect_of_list(0, 0, 33, 6, head);
     expect_of_list(1, 55, 33, 6, head);
+    // List 1 cut at 15, where the last bit of its bits, 28 11, was slot 16.
+    expect_of_list(1, 55, 15, 17, "a bit beyond the cut is set");
     // The offset of block 0 of each list, which must be 0.
     let block = "the codes of a block do not lie where they should";
     expect_of_list(0, 16, 1, 7, block);
@@ -107,13 +109,13 @@ fn an_index_has_at_most_16777216_bytes() {
 
 #[test]
 fn a_number_that_is_not_known_is_a_refusal_too() {
-    for number in [0, 17, 1000, u32::MAX] {
+    for number in [0, 18, 1000, u32::MAX] {
         let refusal = Refusal::from(number);
         assert_eq!(refusal, Refusal::Unknown(number));
         assert_eq!(refusal.number(), number);
     }
-    let refused = Refused { refusal: Refusal::Unknown(17), place: 3 };
-    assert_eq!(refused.to_string(), "17: a number that this package does not know");
+    let refused = Refused { refusal: Refusal::Unknown(18), place: 3 };
+    assert_eq!(refused.to_string(), "18: a number that this package does not know");
 }
 
 #[test]

@@ -2,7 +2,9 @@
 use check::same;
 use sheet::make::PAPER;
 use sheet::make::front;
+use sheet::make::put_bits;
 use sheet::make::put_bytes;
+use sheet::make::put_list;
 use sheet::show::end;
 use sheet::show::flag;
 use sheet::show::label;
@@ -68,8 +70,18 @@ fn refusals() {
     close_fresh(b"close B 129", 129, 79, &[]);
 }
 
+// Records whose second has its bits behind the cut set.
+fn rubbish() {
+    let mut room = [0xA5u8; 143];
+    let first = put_list(&mut room, 0, 32, 2, 0, &[3, 11, 12, 13, 22]);
+    let total = put_list(&mut room, first, 32, 2, 11, &[2, 3, 11, 13, 14, 20, 22, 31]);
+    put_bits(&mut room, first, 13, 0x1F);
+    close_in(b"close rubbish", &mut room, 2, total, &[0, first]);
+}
+
 // All lines of this part, in their order.
 pub fn run() {
     paper();
     refusals();
+    rubbish();
 }

@@ -1,11 +1,16 @@
 // Questions to indexes that the library writes and closes itself, all with u 32.
 use queries::asking::ask_64;
 use queries::lists::count_list;
+use queries::lists::part_of;
+use queries::lists::test_slot;
 use sheet::make;
 use sheet::make::close_lists;
 use sheet::make::front;
 use sheet::make::put_bits;
 use sheet::make::put_list;
+use sheet::make::put_word;
+use sheet::show::verdict;
+use slots::look;
 use std::num::wrapping_add_u32;
 
 // A slot that the paper's list 0 lacks, sought by skips: its one search gives looks and codes.
@@ -56,16 +61,28 @@ fn rising() {
     ask_64(b"rising counts, names 2 1 0", index, 1, &[2, 1, 0]);
 }
 
-// List 1's bits behind its cut of 11, in the second of its two bit bytes, are all set; they mean nothing.
+// What every operation on an index with rubbish in list 1 gives.
+fn refused(index: &[u8]) {
+    verdict(b"rubbish behind the cut, look", look(index));
+    ask_64(b"rubbish behind the cut", index, 1, &[0, 1]);
+    count_list(b"rubbish behind the cut, count list 1", index, 1);
+    test_slot(b"rubbish behind the cut, test 3 in list 0", index, 0, 3);
+    part_of(b"rubbish behind the cut, part of list 1", index, 1);
+}
+
+// List 1's bits behind its cut of 11, in the second of its two bit bytes, are all set. Then list 0's first slot becomes 0, a fault that comes first.
 fn rubbish() {
     let mut room = make::room();
     let first = put_list(&mut room, 0, 32, 2, 0, &[3, 11, 12, 13, 22]);
     let total = put_list(&mut room, first, 32, 2, 11, &[2, 3, 11, 13, 14, 20, 22, 31]);
     let length = close_lists(&mut room, 32, 2, total, &[0, first]);
     put_bits(&mut room, first, 13, 0x1F);
-    let index = front(&room, length);
-    ask_64(b"rubbish behind the cut", index, 1, &[0, 1]);
-    count_list(b"rubbish behind the cut, count list 1", index, 1);
+    refused(front(&room, length));
+    put_word(&mut room, 12, 0);
+    verdict(
+        b"rubbish in list 1, a fault in list 0",
+        look(front(&room, length)),
+    );
 }
 
 // All lines of this part, in their order.

@@ -1,17 +1,19 @@
--- The parts of a record by position: the bits behind the head, then the entries, then the codes. And number 6, which holds them to the head.
+-- The parts of a record by position: the bits behind the head, then the entries, then the codes. Number 6, which holds them to the head; and
+-- number 17, of the bits beyond the cut.
 use Prim.Native.Nat.{ℕ, _+_, _*_, _-_, _≤_}
 use mathlib.Core.Path.{_≡_, refl, sym, ap, _∙_}
 use mathlib.Core.Bool.{Bool, true, false, _&&_, true≢false}
 use mathlib.Core.List.{List}
+use native.Mathlib.Decide.{ℕ-discrete}
 use native.Mathlib.Omega.{arith}
 use lib.ListN.{length, drop}
 use lib.Dec.{ltb, eqb}
 use lib.Seq.{drop-drop}
-use borrow.Author.Tests.{ltb-false, eqb-true, le-ltb, eq-eqb}
+use borrow.Author.Tests.{ltb-false, eqb-true, lt-ltb, le-ltb, eq-eqb}
 use Rattle.paper.specs.Lists.{pick}
 use Rattle.paper.specs.Bytes.{part}
 use Rattle.paper.specs.Tail.{blockCount}
-use Rattle.paper.specs.Record.{cutOf, bitLength, bitsOf, behindBits, entriesOf, codesOf, fault6}
+use Rattle.paper.specs.Record.{cutOf, bitLength, bitsOf, behindBits, entriesOf, codesOf, nextBit, unused, fault6, fault17}
 use Rattle.laws.proofs.Parts.{part-end}
 
 -- w bytes of bits, m entries
@@ -85,3 +87,26 @@ module _ (u B size c n L rest : ℕ) where
       go : (x : ℕ) → Six u B size c n L rest x → x ≡ 6
       go x (fit f) = absurd (not f)
       go x (unfit g) = refl
+
+-- 17 is passed
+abbrev pub Unset : ℕ → List ℕ → Type 0
+Unset c bits = nextBit bits (c + 1) (unused c) ≡ 0
+
+module _ (c : ℕ) (bits : List ℕ) (rest : ℕ) where
+  -- where no bit beyond the cut is set, what follows is the answer
+  pub pass-17 : Unset c bits → fault17 c bits rest ≡ rest
+  unfolding fault17
+  pass-17 z = rw z
+
+  -- where one is, 17 is
+  pub set-17 : ¬ (Unset c bits) → fault17 c bits rest ≡ 17
+  unfolding fault17
+  set-17 n = rw (lt-ltb 0 (nextBit bits (c + 1) (unused c)) (omega arith))
+
+  -- an answer of 0 says that none is, and that 0 follows
+  pub unset-17 : fault17 c bits rest ≡ 0 → Unset c bits × (rest ≡ 0)
+  unset-17 e =
+      elim (ℕ-discrete (nextBit bits (c + 1) (unused c)) 0) [
+        | yes z ↦ (z, sym (pass-17 z) ∙ e)
+        | no n ↦ let s = set-17 n in absurd (omega arith)
+      ]

@@ -10,12 +10,14 @@ use lib.ListN.{length}
 use lib.Dec.{ltb, leb}
 use borrow.Author.Tests.{lt-ltb, le-ltb, le-leb, lt-leb}
 use Rattle.paper.specs.Lists.{has, keep, upFrom}
-use Rattle.paper.specs.Record.{bitLength, bitAt, slotsToCut}
+use Rattle.paper.specs.Record.{bitLength, bitAt, unused, slotsToCut}
 use Rattle.paper.specs.Write.{bitBytes}
 use Rattle.laws.proofs.Lists.{has-here, has-there, keep-pass, keep-fail, up-pass, up-fail}
 use Rattle.laws.proofs.Parts.{AllBytes}
 use Rattle.laws.proofs.Rounding.{bytes-hold}
-use Rattle.laws.proofs.Octets.{bits-length, bits-at, bits-same, bytes-same}
+use Rattle.laws.proofs.Bits.{next-none, none-next}
+use Rattle.laws.proofs.Records.{Unset}
+use Rattle.laws.proofs.Octets.{bits-at, bits-same, bytes-same}
 use Rattle.meaning.proofs.Rising.{Ascends, rise-lower, has-low, has-high}
 use Rattle.meaning.proofs.Bits.{bits-rise, bits-has}
 
@@ -49,6 +51,16 @@ module _ (t : ℕ → Bool) where
 abbrev pub Clean : ℕ → List ℕ → Type 0
 Clean c bits = (x : ℕ) → c < x → x ≤ 8 * length bits → bitAt bits x ≡ false
 
+-- where there are as many bytes of bits as the cut asks for, number 17 is passed exactly when they are clean
+module _ (c : ℕ) (bits : List ℕ) (size : length bits ≡ bitLength c) where
+  pub unset-clean : Unset c bits → Clean c bits
+  unset-clean z x l h =
+      let r = bytes-hold c in
+      none-next bits (c + 1) (unused c) (omega arith) z x (omega arith) (let h = rw size at h in omega arith)
+
+  pub clean-unset : Clean c bits → Unset c bits
+  clean-unset clean = let r = bytes-hold c in next-none bits (c + 1) (unused c) (λ y u v. clean y (omega arith) (rw size (omega arith)))
+
 -- clean bytes of bits are written from the slots that they hold
 pub bits-clean : (c : ℕ) (bits : List ℕ) → AllBytes bits → length bits ≡ bitLength c → Clean c bits
     → bits ≡ bitBytes (λ x. has x (slotsToCut c bits)) 1 (bitLength c)
@@ -59,7 +71,7 @@ bits-clean c bits all size clean =
     go y u v (yes l) = sym (bits-has c bits y u l)
     go y u v (no g) = clean y (omega arith) (rw size (omega arith)) ∙ sym (has-high c 0 y (slotsToCut c bits) (bits-rise c bits) (omega arith))
 
--- and the slots that bytes of bits are written from are held, with clean bits
+-- and the slots that bytes of bits are written from are held
 module _ (c : ℕ) (xs : List ℕ) (a : Ascends c 0 xs) where
   abbrev written : List ℕ
   written = bitBytes (λ x. has x xs) 1 (bitLength c)
@@ -70,12 +82,6 @@ module _ (c : ℕ) (xs : List ℕ) (a : Ascends c 0 xs) where
   bits-read =
       let r = bytes-hold c in
       up-back (bitAt written) c 1 0 c xs refl (omega arith) (λ y u v. bits-at (λ x. has x xs) (bitLength c) y u (omega arith)) a
-
-  -- and no bit beyond the cut is set
-  pub bits-none : Clean c written
-  bits-none x l h =
-      let n = bits-length (λ x. has x xs) (bitLength c) 1 in
-      bits-at (λ x. has x xs) (bitLength c) x (omega arith) (rw n at h) ∙ has-high c 0 x xs a l
 
 -- Slots parted at the cut c: those up to it, and those above it
 module _ (c : ℕ) where

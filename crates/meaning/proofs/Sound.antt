@@ -9,12 +9,12 @@ use native.Mathlib.Omega.{arith}
 use lib.ListN.{length, getD, drop, length-append}
 use Rattle.paper.specs.Lists.{has, lastOf}
 use Rattle.paper.specs.Tail.{Tail, blockCount, firstSlot, offsetOf, readBlocks, readTail}
-use Rattle.paper.specs.Record.{cutOf, tailCount, codeLength, bitLength, bitsOf, behindBits, entriesOf, codesOf, bitAt, slotsToCut, tailIn, tailOf, recordFault}
+use Rattle.paper.specs.Record.{cutOf, tailCount, codeLength, bitLength, bitsOf, behindBits, entriesOf, codesOf, bitAt, slotsToCut, tailIn, tailOf, fault17, recordFault}
 use Rattle.paper.specs.Held.{contents, countOf, entryOf}
 use Rattle.laws.proofs.Lists.{has-front, has-behind}
 use Rattle.laws.proofs.Rounding.{rounds-ceil, rounds-left}
 use Rattle.laws.proofs.Tails.{tail-offset, tail-blocks}
-use Rattle.laws.proofs.Records.{Fits, fits-6}
+use Rattle.laws.proofs.Records.{Fits, Unset, fits-6, unset-17}
 use Rattle.meaning.proofs.Rising.{Ascends, rise-higher, rise-lower, rise-join, last-within, has-low, has-high}
 use Rattle.meaning.proofs.Bits.{bits-rise, bits-has}
 use Rattle.meaning.proofs.Blocks.{blockEnd, codesRead, BlockIs, Chain, blocks-sound}
@@ -33,9 +33,12 @@ abbrev pub codeBytesOf : ℕ → List ℕ → List ℕ
 codeBytesOf B r = codesOf (blocksOf B r) (behindBits r)
 
 module _ (u B : ℕ) (r : List ℕ) (pos : 1 ≤ B) (ok : recordFault u B (length r) r ≡ 0) where
-  the-parts : Fits u B (length r) (cutOf r) (tailCount r) (codeLength r) × (tailOf u B r .fault ≡ 0)
+  the-parts : Fits u B (length r) (cutOf r) (tailCount r) (codeLength r) × (fault17 (cutOf r) (bitsOf r) (tailOf u B r .fault) ≡ 0)
   unfolding recordFault
-  the-parts = fits-6 u B (length r) (cutOf r) (tailCount r) (codeLength r) (tailOf u B r .fault) ok
+  the-parts = fits-6 u B (length r) (cutOf r) (tailCount r) (codeLength r) (fault17 (cutOf r) (bitsOf r) (tailOf u B r .fault)) ok
+
+  behind-6 : Unset (cutOf r) (bitsOf r) × (tailOf u B r .fault ≡ 0)
+  behind-6 = unset-17 (cutOf r) (bitsOf r) (tailOf u B r .fault) (the-parts .1)
 
   -- The parts: the cut is within u
   pub cut-within : cutOf r ≤ u
@@ -49,9 +52,13 @@ module _ (u B : ℕ) (r : List ℕ) (pos : 1 ≤ B) (ok : recordFault u B (lengt
   pub parts-sum : 12 + bitLength (cutOf r) + 8 * blocksOf B r + codeLength r ≡ length r
   parts-sum = the-parts .0 .sum
 
+  -- no bit beyond the cut is set
+  pub none-beyond : Unset (cutOf r) (bitsOf r)
+  none-beyond = behind-6 .0
+
   -- the tail is read without a fault
   tail-sound : tailOf u B r .fault ≡ 0
-  tail-sound = the-parts .1
+  tail-sound = behind-6 .1
 
   -- the tail, as it is read
   read : Tail

@@ -60,12 +60,23 @@ three =
     packed 32 2
     (encode 2 0 (4 ∷ 9 ∷ 16 ∷ 25 ∷ []) ∷ encode 2 0 (upFrom 1 26) ∷ encode 2 0 (2 ∷ 4 ∷ 6 ∷ 8 ∷ 10 ∷ 12 ∷ 14 ∷ 16 ∷ 18 ∷ 20 ∷ 22 ∷ 24 ∷ []) ∷ [])
 
--- list 1, 2 3 11 13 14 20 22 31 with cut 11, has rubbish 1F behind the cut in its second bit byte, whose one bit of its own is 20
+-- 2 3 11 13 14 20 22 31 with cut 11: of its second bit byte three bits are in use, and the one that is set is 20
+abbrev spotless : List ℕ
+spotless = encode 2 11 (2 ∷ 3 ∷ 11 ∷ 13 ∷ 14 ∷ 20 ∷ 22 ∷ 31 ∷ [])
+
+-- the same with rubbish 1F behind the cut
 abbrev stained : List ℕ
-stained = set (encode 2 11 (2 ∷ 3 ∷ 11 ∷ 13 ∷ 14 ∷ 20 ∷ 22 ∷ 31 ∷ [])) 13 0x3F
+stained = set spotless 13 0x3F
+
+-- list 0 is 3 11 12 13 22; list 1 is one of these two, each of 40 bytes
+abbrev few : List ℕ
+few = encode 2 0 (3 ∷ 11 ∷ 12 ∷ 13 ∷ 22 ∷ [])
+
+abbrev tidy : List ℕ
+tidy = packed 32 2 (few ∷ spotless ∷ [])
 
 abbrev rubbish : List ℕ
-rubbish = packed 32 2 (encode 2 0 (3 ∷ 11 ∷ 12 ∷ 13 ∷ 22 ∷ []) ∷ stained ∷ [])
+rubbish = packed 32 2 (few ∷ stained ∷ [])
 
 -- lists 5 20, and 1 2 5 with cut 16 and no tail
 abbrev tailless : List ℕ
@@ -161,8 +172,8 @@ looking-rows =
     (280, checking 32 1 (hex 21 0x05000000_01000000_00000000_00_06000000_00000000) 0) ∷
     (281, checking 32 1 (hex 28 0x00000000_02000000_00000000_05000000_00000000_05000000_00000000) 9) ∷
     (282, testing (with 54 0x81) 0 5 (8 ∷ 0 ∷ 0 ∷ [])) ∷
-    (283, counting rubbish 1 (0 ∷ 0 ∷ 8 ∷ [])) ∷
-    (284, lending rubbish 1 (0 ∷ 0 ∷ 38 ∷ 40 ∷ []) stained) ∷
+    (283, counting tidy 1 (0 ∷ 0 ∷ 8 ∷ [])) ∷
+    (284, lending tidy 1 (0 ∷ 0 ∷ 38 ∷ 40 ∷ []) spotless) ∷
     (285, counting (with 54 0x81) 9 (8 ∷ 0 ∷ 0 ∷ [])) ∷
     (286, lending (with 54 0x81) 1 (8 ∷ 0 ∷ 0 ∷ 0 ∷ []) []) ∷
     (287, checking 2 4 (hex 21 0x00000000_02000000_01000000_01000000_00000000_00) 0) ∷
@@ -203,7 +214,7 @@ asking-rows =
     (309, asking ties 1 (1 ∷ 0 ∷ []) (room 4) (0 ∷ 0 ∷ 0 ∷ 4 ∷ 0 ∷ []) (replicate 4 0)) ∷
     (310, asking ties 1 (0 ∷ 1 ∷ 1 ∷ []) (room 4) (0 ∷ 0 ∷ 0 ∷ 3 ∷ 0 ∷ []) (replicate 4 0)) ∷
     (311, asking three 1 (0 ∷ 1 ∷ 2 ∷ []) (room 4) (0 ∷ 0 ∷ 2 ∷ 20 ∷ 6 ∷ []) (4 ∷ 16 ∷ 0 ∷ 0 ∷ [])) ∷
-    (312, asking rubbish 1 (0 ∷ 1 ∷ []) (room 5) (0 ∷ 0 ∷ 4 ∷ 5 ∷ 1 ∷ []) (3 ∷ 11 ∷ 13 ∷ 22 ∷ 0 ∷ [])) ∷
+    (312, asking tidy 1 (0 ∷ 1 ∷ []) (room 5) (0 ∷ 0 ∷ 4 ∷ 5 ∷ 1 ∷ []) (3 ∷ 11 ∷ 13 ∷ 22 ∷ 0 ∷ [])) ∷
     (313, asking tailless 1 (0 ∷ 1 ∷ []) (room 2) (0 ∷ 0 ∷ 1 ∷ 0 ∷ 0 ∷ []) (5 ∷ 0 ∷ [])) ∷
     (314, asking index 1 (replicate 17 9) [] (10 ∷ 0 ∷ 0 ∷ 0 ∷ 0 ∷ []) []) ∷
     []
@@ -277,9 +288,58 @@ file-rows =
     (528, running (some (replicate 65537 0)) (hex 1 0x78) (hex 5 0x66_69_6C_65_0A)) ∷
     []
 
+-- [Order 1] Bits beyond the cut. Slots 1 and 9 with cut 9, and then each unused bit by itself; a cut that ends a byte; the cuts 1 and u; 17 beside
+-- other faults of its record; the cuts 0 and 8 with a byte FF right behind the bits
+unfoldable pub unused-rows : List (ℕ × Row)
+unused-rows =
+    (601, checking 32 2 (hex 14 0x09000000_00000000_00000000_80_80) 0) ∷
+    (602, checking 32 2 (hex 14 0x09000000_00000000_00000000_80_C0) 17) ∷
+    (603, checking 32 2 (hex 14 0x09000000_00000000_00000000_80_A0) 17) ∷
+    (604, checking 32 2 (hex 14 0x09000000_00000000_00000000_80_90) 17) ∷
+    (605, checking 32 2 (hex 14 0x09000000_00000000_00000000_80_88) 17) ∷
+    (606, checking 32 2 (hex 14 0x09000000_00000000_00000000_80_84) 17) ∷
+    (607, checking 32 2 (hex 14 0x09000000_00000000_00000000_80_82) 17) ∷
+    (608, checking 32 2 (hex 14 0x09000000_00000000_00000000_80_81) 17) ∷
+    (609, checking 32 2 (hex 14 0x0F000000_00000000_00000000_FF_FE) 0) ∷
+    (610, checking 32 2 (hex 14 0x0F000000_00000000_00000000_00_01) 17) ∷
+    (611, checking 32 2 (hex 13 0x08000000_00000000_00000000_FF) 0) ∷
+    (612, checking 32 2 (hex 14 0x10000000_00000000_00000000_00_FF) 0) ∷
+    (613, checking 32 2 (hex 13 0x01000000_00000000_00000000_80) 0) ∷
+    (614, checking 32 2 (hex 13 0x01000000_00000000_00000000_40) 17) ∷
+    (615, checking 32 2 (hex 16 0x20000000_00000000_00000000_FF_FF_FF_FF) 0) ∷
+    (616, checking 29 2 (hex 16 0x1D000000_00000000_00000000_FF_FF_FF_F8) 0) ∷
+    (617, checking 29 2 (hex 16 0x1D000000_00000000_00000000_FF_FF_FF_FC) 17) ∷
+    (618, checking 28 2 (hex 16 0x1D000000_00000000_00000000_FF_FF_FF_FC) 6) ∷
+    (619, checking 32 2 (hex 15 0x09000000_00000000_01000000_80_C0_00) 6) ∷
+    (620, checking 32 2 (hex 15 0x09000000_00000000_00000000_80_C0_00) 6) ∷
+    (621, checking 32 2 (hex 22 0x09000000_01000000_00000000_80_C0_09000000_00000000) 17) ∷
+    (622, checking 32 2 (hex 22 0x09000000_01000000_00000000_80_80_09000000_00000000) 9) ∷
+    (623, checking 32 2 (hex 22 0x09000000_01000000_00000000_80_C0_0A000000_01000000) 17) ∷
+    (624, checking 32 2 (hex 22 0x09000000_01000000_00000000_80_80_0A000000_01000000) 7) ∷
+    (625, checking 32 2 (hex 23 0x09000000_01000000_01000000_80_C0_0A000000_00000000_00) 17) ∷
+    (626, checking 32 2 (hex 23 0x09000000_01000000_01000000_80_80_0A000000_00000000_00) 8) ∷
+    (627, checking 256 2 (hex 20 0x00000000_01000000_00000000_FF000000_00000000) 0) ∷
+    (628, checking 256 2 (hex 21 0x08000000_01000000_00000000_FF_FF000000_00000000) 0) ∷
+    []
+
+-- in an index: behind a fault of the list before, and before one of the list behind; every operation that looks; closing
+unfoldable pub rubbish-rows : List (ℕ × Row)
+rubbish-rows =
+    (631, looking rubbish (17 ∷ 1 ∷ [])) ∷
+    (632, looking (set rubbish 12 0) (9 ∷ 0 ∷ [])) ∷
+    (633, looking (packed 32 2 (stained ∷ set few 12 0 ∷ [])) (17 ∷ 0 ∷ [])) ∷
+    (634, asking rubbish 2 [] (room 5) (17 ∷ 1 ∷ 0 ∷ 0 ∷ 0 ∷ []) (room 5)) ∷
+    (635, asking rubbish 1 (0 ∷ []) (room 5) (17 ∷ 1 ∷ 0 ∷ 0 ∷ 0 ∷ []) (room 5)) ∷
+    (636, testing rubbish 0 3 (17 ∷ 1 ∷ 0 ∷ [])) ∷
+    (637, counting rubbish 2 (17 ∷ 1 ∷ 0 ∷ [])) ∷
+    (638, lending rubbish 0 (17 ∷ 1 ∷ 0 ∷ 0 ∷ []) []) ∷
+    (639, closing (few ++ stained ++ room 32) 32 2 78 (0 ∷ 38 ∷ []) (17 ∷ 1 ∷ 0 ∷ []) (few ++ stained ++ room 32)) ∷
+    (640, closing (few ++ spotless ++ room 32) 32 2 78 (0 ∷ 38 ∷ []) (0 ∷ 0 ∷ 110 ∷ []) tidy) ∷
+    []
+
 -- The one table. Its groups are computed apart, so that the check of a faulty definition names the rows that fail
 unfoldable pub readings : List (ℕ × Row)
-readings = paper-rows ++ (looking-rows ++ (search-rows ++ (asking-rows ++ (writing-rows ++ (program-rows ++ file-rows)))))
+readings = paper-rows ++ (looking-rows ++ (search-rows ++ (asking-rows ++ (writing-rows ++ (program-rows ++ (file-rows ++ (unused-rows ++ rubbish-rows)))))))
 
 paper-hold : failing paper-rows ≡ []
 unfolding opened judged paper-rows
@@ -309,6 +369,14 @@ file-hold : failing file-rows ≡ []
 unfolding opened judged file-rows
 file-hold = refl
 
+unused-hold : failing unused-rows ≡ []
+unfolding opened judged unused-rows
+unused-hold = refl
+
+rubbish-hold : failing rubbish-rows ≡ []
+unfolding opened judged rubbish-rows
+rubbish-hold = refl
+
 -- every row holds
 pub readings-hold : failing readings ≡ []
 unfolding readings
@@ -318,4 +386,6 @@ readings-hold =
     (joined search-rows _ search-hold
     (joined asking-rows _ asking-hold
     (joined writing-rows _ writing-hold
-    (joined program-rows file-rows program-hold file-hold)))))
+    (joined program-rows _ program-hold
+    (joined file-rows _ file-hold
+    (joined unused-rows rubbish-rows unused-hold rubbish-hold)))))))

@@ -17,7 +17,7 @@ numbersFault bs size =
 unfoldable pub frameFault : List ℕ → ℕ → Verdict
 frameFault bs size = fault1 size (fault2 bs (numbersFault bs size))
 
--- the test of list i, whose record is r: 6 to 9, the place being the list
+-- the test of list i, whose record is r: 6 to 9 and 17, the place being the list
 abbrev pub listFault : ℕ → ℕ → ℕ → List ℕ → Verdict
 listFault u B i r = verdict (recordFault u B (length r) r) i
 

@@ -1,6 +1,6 @@
 -- [The index, read from its end; Numbers of refusal] A record: a head of three numbers, then bits, then skip entries, then code bytes.
 -- Its parts are taken off the front one after the other, each by what the head says.
-use Prim.Native.Nat.{ℕ, _+_, _-_, _*_, _/_, _%_, _^_}
+use Prim.Native.Nat.{ℕ, zero, suc, _+_, _-_, _*_, _/_, _%_, _^_}
 use mathlib.Core.Bool.{Bool, _&&_}
 use mathlib.Core.List.{List}
 use lib.ListN.{take, drop}
@@ -57,6 +57,15 @@ digit b s = b / 2 ^ s % 2
 unfoldable pub bitAt : List ℕ → ℕ → Bool
 bitAt bits x = eqb (digit (byteAt bits (byteOf x)) (digitOf x)) 1
 
+-- the first of the k slots from x on whose bit is set; 0: there is none
+unfoldable pub nextBit : List ℕ → ℕ → ℕ → ℕ
+nextBit bits x zero = 0
+nextBit bits x (suc k) = let behind = nextBit bits (x + 1) k in pick (bitAt bits x) x behind
+
+-- how many bits of the last byte lie beyond c: none where c ends a byte, and none where c is 0
+abbrev pub unused : ℕ → ℕ
+unused c = 8 * bitLength c - c
+
 -- the slots up to c whose bit is set; bits beyond c play no part
 unfoldable pub slotsToCut : ℕ → List ℕ → List ℕ
 slotsToCut c bits = keep (bitAt bits) (upFrom 1 c)
@@ -78,6 +87,13 @@ fault6 u B size c n L rest =
     (pick (eqb n 0 && ltb 0 L) 6
     (pick (eqb (12 + bitLength c + 8 * blockCount B n + L) size) rest 6)))
 
--- the tests of a record of some size: 6, then those of the tail
+-- [Order 1] 17: a bit beyond the cut c is set; else what follows
+unfoldable pub fault17 : ℕ → List ℕ → ℕ → ℕ
+fault17 c bits rest = pick (ltb 0 (nextBit bits (c + 1) (unused c))) 17 rest
+
+-- the tests of a record of some size: 6, then 17, then those of the tail
 unfoldable pub recordFault : ℕ → ℕ → ℕ → List ℕ → ℕ
-recordFault u B size r = let tail = tailOf u B r .fault in fault6 u B size (cutOf r) (tailCount r) (codeLength r) tail
+recordFault u B size r =
+    let tail = tailOf u B r .fault in
+    let behind = fault17 (cutOf r) (bitsOf r) tail in
+    fault6 u B size (cutOf r) (tailCount r) (codeLength r) behind

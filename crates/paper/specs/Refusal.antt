@@ -1,5 +1,5 @@
 -- [Numbers of refusal] How a verdict is said, and the rows of the table as links: each has its test, the number and place where the test
--- fails, and `rest`, what follows where it passes. An operation is a chain of links in its own order. (6 to 9 are said of one record, in
+-- fails, and `rest`, what follows where it passes. An operation is a chain of links in its own order. (6 to 9 and 17 are said of one record, in
 -- Record, Tail and Block.)
 use Prim.Native.Nat.{ℕ, zero, suc, _+_, _-_, _*_}
 use mathlib.Core.Bool.{Bool, false, _||_}

@@ -82,7 +82,7 @@ module _ (bs : List ℕ) (ok : look bs .number ≡ 0) (i : ℕ) (l : i < kOf bs)
   unfolding entryOf
   list-first = entry-first u B r some-B free
 
-  list-long : 12 ≤ length r
+  pub list-long : 12 ≤ length r
   list-long =
       let f = looked bs ok .frame in
       let n = length-part bs (startOf bs i) (startOf bs (i + 1)) (start-within bs f (i + 1) (omega arith)) in

@@ -1,4 +1,4 @@
--- [Numbers of refusal] The rows of closing an index: 4, 1, 12, 5, and then 6 to 9 list by list. They are said of the numbers that are given and of the
+-- [Numbers of refusal] The rows of closing an index: 4, 1, 12, 5, and then 6 to 9 and 17 list by list. They are said of the numbers that are given and of the
 -- bytes that stand in the buffer, with the numbers spelt out, and not by how records are read. D is the total length of the records, and k is how
 -- many starts there are. The rows are gone through in the order of closing, so that at most one number is given.
 use Prim.Native.Nat.{ℕ, _+_, _*_, _≤_, _<_}
@@ -46,7 +46,7 @@ pub data CloseRefused (before : List ℕ) (u B D : ℕ) (starts : List ℕ) : �
   -- 5: a record would start at s and end at e, the next start or D, and be shorter than 12 bytes
   tight : Roomy before u B D starts → (front behind : List ℕ) (s e : ℕ) → starts ++ D ∷ [] ≡ front ++ s ∷ e ∷ behind → e < s + 12
       → CloseRefused before u B D starts 5 0
-  -- 6 to 9: the records in front are sound, and then comes one that is refused; the place is that list
+  -- 6 to 9 and 17: the records in front are sound, and then comes one that is refused; the place is that list
   list : {f : ℕ} (front : List (List ℕ)) (r : List ℕ) (behind : List (List ℕ)) → Laid before u B D starts (front ++ r ∷ behind)
       → Each (RecordSound u B) front → RecordRefused u B r f → CloseRefused before u B D starts f (length front)
 

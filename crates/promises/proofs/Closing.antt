@@ -15,12 +15,24 @@ use Rattle.paper.specs.Refusal.{verdict}
 use Rattle.paper.specs.Held.{contents}
 use Rattle.paper.specs.Index.{uOf, blockLength, kOf, dOf, recordOf, held}
 use Rattle.paper.specs.Look.{look}
+use Rattle.paper.specs.Write.{encode}
 use Rattle.paper.specs.Close.{frameBytes, closeAnswer, MeetsClose}
 use Rattle.paper.specs.declared.Written.{Written}
 use Rattle.paper.proofs.Hex.{hex, list0, list1, index}
 use Rattle.paper.proofs.Open.{opened}
 use Rattle.paper.proofs.Rows.{room}
-use Rattle.paper.proofs.Readings.{readings, paper-rows, looking-rows, search-rows, asking-rows, writing-rows}
+use Rattle.paper.proofs.Readings.{
+  readings,
+  paper-rows,
+  looking-rows,
+  search-rows,
+  asking-rows,
+  writing-rows,
+  program-rows,
+  file-rows,
+  unused-rows,
+  rubbish-rows,
+}
 use Rattle.laws.proofs.Lists.{Each}
 use Rattle.laws.proofs.Parts.{AllBytes}
 use Rattle.promises.proofs.IndexRows.{Word, words, WellFormed, ByTheTable}
@@ -63,8 +75,8 @@ close-by-the-table before u B D starts all small = numbers.close-table before u 
 
 -- CLOSING IS LOOKING
 
--- Where rows 4, 1 and 12 are passed, number and place are what looking says of the index that would be made. So 5 to 9 are given, or none of them,
--- as in looking.
+-- Where rows 4, 1 and 12 are passed, number and place are what looking says of the index that would be made. So 5 to 9 and 17 are given, or none of
+-- them, as in looking.
 abbrev pub CloseLooks : Type 0
 CloseLooks =
     OfAnswers λ before u B D starts answer after.
@@ -198,9 +210,14 @@ FirstCloses =
 pub first-closes : FirstCloses
 first-closes = examples.first-closes
 
+-- two records with B 2, of which the second has all bits beyond its cut of 11 set
+abbrev pub stainedRecords : List ℕ
+stainedRecords = encode 2 0 (3 ∷ 11 ∷ 12 ∷ 13 ∷ 22 ∷ []) ++ set (encode 2 11 (2 ∷ 3 ∷ 11 ∷ 13 ∷ 14 ∷ 20 ∷ 22 ∷ 31 ∷ [])) 13 0x3F
+
 -- Refusals: no starts; u of 0, before anything else; no starts and a finished length beyond 32 bits, which gives 4 and not 1; a finished length of
 -- 16,777,217, and one beyond 32 bits; one of 16,777,216 in a buffer of 9 bytes; the paper's records with a byte less of room than their index needs, and
--- then also with a first start of 1; a second start that leaves the last record 11 bytes; and a code of list 1 that leads to slot 33.
+-- then also with a first start of 1; a second start that leaves the last record 11 bytes; a code of list 1 that leads to slot 33; and a list 1 whose
+-- bits beyond the cut are set.
 abbrev pub CloseRefuses : Type 0
 CloseRefuses =
     ClosesTo (room 200) 32 4 0 [] (4 ∷ 0 ∷ 0 ∷ []) (room 200)
@@ -213,10 +230,11 @@ CloseRefuses =
     × ClosesTo (list0 ++ list1 ++ room 31) 32 4 79 (1 ∷ 55 ∷ []) (12 ∷ 111 ∷ 0 ∷ []) (list0 ++ list1 ++ room 31)
     × ClosesTo (list0 ++ list1 ++ room 32) 32 4 79 (0 ∷ 68 ∷ []) (5 ∷ 0 ∷ 0 ∷ []) (list0 ++ list1 ++ room 32)
     × ClosesTo (list0 ++ set list1 22 6 ++ room 32) 32 4 79 (0 ∷ 55 ∷ []) (9 ∷ 1 ∷ 0 ∷ []) (list0 ++ set list1 22 6 ++ room 32)
+    × ClosesTo (stainedRecords ++ room 32) 32 2 78 (0 ∷ 38 ∷ []) (17 ∷ 1 ∷ 0 ∷ []) (stainedRecords ++ room 32)
 
 -- (rows of the readings by their labels)
 pub close-refuses : CloseRefuses
-unfolding readings paper-rows looking-rows search-rows asking-rows writing-rows labelled
+unfolding readings paper-rows looking-rows search-rows asking-rows writing-rows program-rows file-rows unused-rows rubbish-rows labelled
 close-refuses = (
   examples.in-readings 441 _ _ _ _ _ _ _ refl,
   examples.in-readings 450 _ _ _ _ _ _ _ refl,
@@ -228,6 +246,7 @@ close-refuses = (
   examples.in-readings 448 _ _ _ _ _ _ _ refl,
   examples.in-readings 447 _ _ _ _ _ _ _ refl,
   examples.in-readings 449 _ _ _ _ _ _ _ refl,
+  examples.in-readings 639 _ _ _ _ _ _ _ refl,
 )
 
 -- So it is of every closing in the table of the further examples, which has them all.

@@ -1,4 +1,4 @@
--- [The index, read from its end; Numbers of refusal] Rows 1 to 5 of the table, then rows 6 to 9 list by list, and rows 11 and 16 of the
+-- [The index, read from its end; Numbers of refusal] Rows 1 to 5 of the table, then rows 6 to 9 and 17 list by list, and rows 11 and 16 of the
 -- operations on one list. They are said of an index's bytes by what is written there, with the numbers spelt out, and not by how an index
 -- is read. The rows are gone through in the order of looking, so that at most one number is given. Last, what it is to go by the table.
 use Prim.Native.Nat.{ℕ, _+_, _*_, _≤_, _<_}
@@ -9,7 +9,7 @@ use lib.ListN.{length}
 use Rattle.paper.specs.Bytes.{u32Bytes}
 use Rattle.laws.proofs.Lists.{In, Each}
 use Rattle.meaning.proofs.Rising.{Ascends}
-use Rattle.promises.proofs.RecordRows.{RecordRefused, RecordSound}
+use Rattle.promises.proofs.RecordRows.{Stained, RecordRefused, RecordSound}
 
 -- x lies in lo..hi
 abbrev pub Inside : ℕ → ℕ → ℕ → Type 0
@@ -108,9 +108,20 @@ pub data Refused (bs : List ℕ) : ℕ → ℕ → Type 0 where
   -- 5: a record would start at s and end at e, the next start or D, and be shorter than 12 bytes
   tight : (t : Trailer) (records starts : List ℕ) → Filled bs t records starts → (front behind : List ℕ) (s e : ℕ)
       → starts ++ t .D ∷ [] ≡ front ++ s ∷ e ∷ behind → e < s + 12 → Refused bs 5 0
-  -- 6 to 9: the lists in front are sound, and then comes one that is refused; the place is that list
+  -- 6 to 9 and 17: the lists in front are sound, and then comes one that is refused; the place is that list
   list : {f : ℕ} (t : Trailer) (front : List (List ℕ)) (r : List ℕ) (behind : List (List ℕ)) → Packed bs t (front ++ r ∷ behind)
       → Each (RecordSound (t .u) (t .B)) front → RecordRefused (t .u) (t .B) r f → Refused bs f (length front)
+
+-- ROW 17 ALONE, of list i: the lists before it are sound, and then comes one with rubbish beyond its cut
+pub record StainedAt (bs : List ℕ) (i : ℕ) : Type 0 where
+  pub trailer : Trailer
+  pub front : List (List ℕ)
+  pub r : List ℕ
+  pub behind : List (List ℕ)
+  pub packed : Packed bs trailer (front ++ r ∷ behind)
+  pub sound : Each (RecordSound (trailer .u) (trailer .B)) front
+  pub stained : Stained (trailer .u) (trailer .B) r
+  pub place : length front ≡ i
 
 -- NO ROW: the index is well formed, each of its records being sound
 pub record WellFormed (bs : List ℕ) : Type 0 where

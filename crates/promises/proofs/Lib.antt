@@ -7,6 +7,7 @@ pub mod WrittenCodes
 pub mod WrittenBlocks
 pub mod WrittenFaults
 pub mod WrittenTails
+pub mod Beyond
 pub mod WrittenRecords
 pub mod RecordNumbers
 pub mod RecordSlots
@@ -19,6 +20,8 @@ pub mod IndexJudged
 pub mod IndexNumbers
 pub mod IndexRecords
 pub mod OneReading
+pub mod SameIndexes
+pub mod Seventeen
 pub mod AcceptedLists
 pub mod OperationNumbers
 pub mod OperationAnswers
@@ -48,6 +51,7 @@ pub mod WriteRows
 pub mod WriteBytes
 pub mod WriteNumbers
 pub mod WriteAnswers
+pub mod WriteAgain
 pub mod WriteExamples
 pub mod Closing
 pub mod CloseRows

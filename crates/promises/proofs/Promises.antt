@@ -25,13 +25,15 @@ use Rattle.laws.proofs.Lists.{In}
 use Rattle.laws.proofs.Parts.{AllBytes}
 use Rattle.meaning.proofs.Rising.{Ascends}
 use Rattle.meaning.proofs.Sound as sound
-use Rattle.promises.proofs.RecordRows.{Parts, RecordRefused, RecordSound, InTail, Holds}
-use Rattle.promises.proofs.IndexRows.{Trailer, EndsIn, Refused, WellFormed, NameRefused, NameAccepted, TestRefused, TestAccepted, ByTheTable, Counts}
+use Rattle.promises.proofs.RecordRows.{Parts, Stained, RecordRefused, RecordSound, InTail, Holds}
+use Rattle.promises.proofs.IndexRows.{Trailer, EndsIn, Refused, StainedAt, WellFormed, NameRefused, NameAccepted, TestRefused, TestAccepted, ByTheTable, Counts}
 use Rattle.promises.proofs.WrittenRecords as written
 use Rattle.promises.proofs.RecordNumbers as records
 use Rattle.promises.proofs.RecordSlots as slots
 use Rattle.promises.proofs.IndexNumbers as indexes
 use Rattle.promises.proofs.OneReading as one
+use Rattle.promises.proofs.SameIndexes as same
+use Rattle.promises.proofs.Seventeen as seventeen
 use Rattle.promises.proofs.AcceptedLists as lists
 use Rattle.promises.proofs.OperationNumbers as operations
 use Rattle.promises.proofs.OperationAnswers as answers
@@ -46,6 +48,13 @@ LookByTheTable = (bs : List ℕ) → AllBytes bs → ByTheTable (look bs .number
 
 pub look-by-the-table : LookByTheTable
 look-by-the-table = indexes.look-by-the-table
+
+-- [Order 1] It gives 17 and the place i exactly when row 17 applies to list i and the lists before it are sound.
+abbrev pub LookSeventeen : Type 0
+LookSeventeen = (bs : List ℕ) → AllBytes bs → (i : ℕ) → ((look bs .number ≡ 17) × (look bs .place ≡ i)) ↔ StainedAt bs i
+
+pub look-seventeen : LookSeventeen
+look-seventeen = seventeen.look-seventeen
 
 -- Testing a slot gives the number and the place of the row that refuses the index, the name or the slot, and accepts exactly where none does.
 abbrev pub TestByTheTable : Type 0
@@ -92,7 +101,15 @@ RecordByTheTable = OfRecords λ u B r. (f : ℕ) → ((recordFault u B (length r
 pub record-number : RecordByTheTable
 record-number = records.record-number
 
--- It is accepted exactly when it is written from a cut, bytes of bits, and slots that rise above the cut.
+-- [Order 1] It is refused with 17 exactly when its parts are those that its head says (row 6 does not apply), the cut ends inside a byte, and a bit of
+-- that byte beyond the cut is set: `Stained`, in RecordRows.
+abbrev pub RecordSeventeen : Type 0
+RecordSeventeen = OfRecords λ u B r. (recordFault u B (length r) r ≡ 17) ↔ Stained u B r
+
+pub record-seventeen : RecordSeventeen
+record-seventeen = records.record-stained
+
+-- It is accepted exactly when it is written from a cut, bytes of bits with none set beyond the cut, and slots that rise above the cut.
 abbrev pub RecordAccepted : Type 0
 RecordAccepted = OfRecords λ u B r. Accepted u B r ↔ RecordSound u B r
 
@@ -245,9 +262,16 @@ contents-rise = sound.contents-rise
 abbrev pub UnusedZero : List ℕ → Type 0
 UnusedZero r = (x : ℕ) → cutOf r < x → x ≤ 8 * length (bitsOf r) → bitAt (bitsOf r) x ≡ false
 
--- An accepted record with its unused bits zero is, byte for byte, what is written from its cut and the slots that it holds.
+-- [Order 1] An accepted record has these bits zero.
+abbrev pub AcceptedUnusedZero : Type 0
+AcceptedUnusedZero = OfRecords λ u B r. Accepted u B r → UnusedZero r
+
+pub accepted-unused-zero : AcceptedUnusedZero
+accepted-unused-zero = written.unused-zero
+
+-- It is, byte for byte, what is written from its cut and the slots that it holds.
 abbrev pub ContentsWritten : Type 0
-ContentsWritten = OfRecords λ u B r. Accepted u B r → UnusedZero r → r ≡ encode B (cutOf r) (contents u B r)
+ContentsWritten = OfRecords λ u B r. Accepted u B r → r ≡ encode B (cutOf r) (contents u B r)
 
 pub contents-written : ContentsWritten
 contents-written = written.contents-written
@@ -270,24 +294,52 @@ WrittenBytes = OfWritten λ u B c xs. AllBytes (encode B c xs) × (12 ≤ length
 pub written-bytes : WrittenBytes
 written-bytes = written.written-bytes
 
--- A record is accepted with the cut c and its unused bits zero, and holds xs, exactly when xs rises strictly in 1..u, c is at most u, and the
--- record is what is written from them.
+-- A record is accepted with the cut c, and holds xs, exactly when xs rises strictly in 1..u, c is at most u, and the record is what is written
+-- from them.
 abbrev pub RecordExact : Type 0
 RecordExact =
     OfRecords λ u B r.
-    (c : ℕ) (xs : List ℕ) → (Accepted u B r × UnusedZero r × (cutOf r ≡ c) × (contents u B r ≡ xs)) ↔ ((c ≤ u) × Ascends u 0 xs × (r ≡ encode B c xs))
+    (c : ℕ) (xs : List ℕ) → (Accepted u B r × (cutOf r ≡ c) × (contents u B r ≡ xs)) ↔ ((c ≤ u) × Ascends u 0 xs × (r ≡ encode B c xs))
 
 pub record-exact : RecordExact
 record-exact = written.record-exact
 
--- Two accepted records with their unused bits zero, the same cut and the same slots are the same bytes.
+-- ONE RECORD: for the same u and B, two accepted records with the same cut and the same slots are the same bytes.
 abbrev pub OneRecord : Type 0
 OneRecord =
     (u B : ℕ) (r s : List ℕ) → AllBytes r → AllBytes s → 1 ≤ B → u ≤ 1048576 → 12 ≤ length r → 12 ≤ length s → Accepted u B r → Accepted u B s
-    → UnusedZero r → UnusedZero s → cutOf r ≡ cutOf s → contents u B r ≡ contents u B s → r ≡ s
+    → cutOf r ≡ cutOf s → contents u B r ≡ contents u B s → r ≡ s
 
 pub one-record : OneRecord
 one-record = written.one-record
+
+-- So it is by what is written alone: sound records with the same cut that hold the same slots, as RecordRows says both, are the same bytes.
+abbrev pub OneRecordHeld : Type 0
+OneRecordHeld =
+    (u B : ℕ) (r s : List ℕ) → AllBytes r → AllBytes s → 1 ≤ B → u ≤ 1048576 → 12 ≤ length r → 12 ≤ length s → (p : RecordSound u B r)
+    (q : RecordSound u B s) → p .cut ≡ q .cut → ((x : ℕ) → Holds u B r x ↔ Holds u B s x) → r ≡ s
+
+pub one-record-held : OneRecordHeld
+one-record-held = same.one-record-held
+
+-- And there is one: for rising slots in 1..u and a cut up to u, exactly what is written is accepted with this cut and these slots.
+abbrev pub ExactlyOne : Type 0
+ExactlyOne =
+    OfWritten λ u B c xs.
+    (r : List ℕ) → (AllBytes r × (12 ≤ length r) × Accepted u B r × (cutOf r ≡ c) × (contents u B r ≡ xs)) ↔ (r ≡ encode B c xs)
+
+pub exactly-one : ExactlyOne
+exactly-one = written.exactly-one
+
+-- ONE INDEX: two accepted indexes with the same u, the same block length and as many lists, whose lists have the same cuts and the same slots, are the
+-- same bytes.
+abbrev pub OneIndexFor : Type 0
+OneIndexFor =
+    (bs cs : List ℕ) → AllBytes bs → AllBytes cs → look bs .number ≡ 0 → look cs .number ≡ 0 → uOf bs ≡ uOf cs → blockLength bs ≡ blockLength cs
+    → kOf bs ≡ kOf cs → ((i : ℕ) → i < kOf bs → (cutOf (recordOf bs i) ≡ cutOf (recordOf cs i)) × (held bs i ≡ held cs i)) → bs ≡ cs
+
+pub one-index-for : OneIndexFor
+one-index-for = same.one-index-for
 
 -- TEST, COUNT, LEND, PART
 
@@ -337,6 +389,16 @@ LendEmpty = (bs : List ℕ) (name : ℕ) → (lent bs name ≡ []) ↔ ¬ (count
 pub lend-empty : LendEmpty
 unfolding countAnswer
 lend-empty bs name = (λ e ok. answers.lend-some bs name ok e, answers.lend-refusal bs name)
+
+-- [Order 1] Of an accepted name they are, byte for byte, what is written from their cut and the slots that the list holds.
+abbrev pub LendWritten : Type 0
+LendWritten =
+    (bs : List ℕ) (name : ℕ) → AllBytes bs → countAnswer bs name .number ≡ 0
+    → lent bs name ≡ encode (blockLength bs) (cutOf (lent bs name)) (held bs name)
+
+pub lend-written : LendWritten
+unfolding countAnswer
+lend-written = same.lent-written
 
 -- Start and length say where the lent bytes lie in the index.
 abbrev pub PartSays : Type 0

@@ -11,7 +11,7 @@ use mathlib.Core.Logic.{_↔_}
 use mathlib.Core.Option.{some}
 use mathlib.Core.List.{List, [], _∷_, _++_, map, flatten}
 use native.Mathlib.Omega.{arith}
-use lib.ListN.{length, getD, take, set}
+use lib.ListN.{length, getD, take}
 use Rattle.paper.specs.Lists.{has, upFrom}
 use Rattle.paper.specs.Index.{uOf, blockLength, kOf, recordOf, held}
 use Rattle.paper.specs.Look.{look}
@@ -296,17 +296,17 @@ three =
     indexOf 32 2
     (encode 2 0 (4 ∷ 9 ∷ 16 ∷ 25 ∷ []) ∷ encode 2 0 (upFrom 1 26) ∷ encode 2 0 (2 ∷ 4 ∷ 6 ∷ 8 ∷ 10 ∷ 12 ∷ 14 ∷ 16 ∷ 18 ∷ 20 ∷ 22 ∷ 24 ∷ []) ∷ [])
 
--- lists 3 11 12 13 22, and 2 3 11 13 14 20 22 31 with cut 11 and all bits beyond the cut set
-abbrev pub rubbish : List ℕ
-rubbish = indexOf 32 2 (encode 2 0 (3 ∷ 11 ∷ 12 ∷ 13 ∷ 22 ∷ []) ∷ set (encode 2 11 (2 ∷ 3 ∷ 11 ∷ 13 ∷ 14 ∷ 20 ∷ 22 ∷ 31 ∷ [])) 13 0x3F ∷ [])
+-- lists 3 11 12 13 22, and 2 3 11 13 14 20 22 31 with a cut of 11, which ends inside a byte
+abbrev pub inside : List ℕ
+inside = indexOf 32 2 (encode 2 0 (3 ∷ 11 ∷ 12 ∷ 13 ∷ 22 ∷ []) ∷ encode 2 11 (2 ∷ 3 ∷ 11 ∷ 13 ∷ 14 ∷ 20 ∷ 22 ∷ 31 ∷ []) ∷ [])
 
--- On these: two lists of one count, in either order; three lists that are gone through by rising count; and bits beyond the cut, which say nothing.
+-- On these: two lists of one count, in either order; three lists that are gone through by rising count; and a cut inside a byte.
 abbrev pub OtherAnswers : Type 0
 OtherAnswers =
     Gives ties 1 (0 ∷ 1 ∷ []) (room 4) (0 ∷ 0 ∷ 0 ∷ 3 ∷ 0 ∷ []) (0 ∷ 0 ∷ 0 ∷ 0 ∷ [])
     × Gives ties 1 (1 ∷ 0 ∷ []) (room 4) (0 ∷ 0 ∷ 0 ∷ 4 ∷ 0 ∷ []) (0 ∷ 0 ∷ 0 ∷ 0 ∷ [])
     × Gives three 1 (0 ∷ 1 ∷ 2 ∷ []) (room 4) (0 ∷ 0 ∷ 2 ∷ 20 ∷ 6 ∷ []) (4 ∷ 16 ∷ 0 ∷ 0 ∷ [])
-    × Gives rubbish 1 (0 ∷ 1 ∷ []) (room 5) (0 ∷ 0 ∷ 4 ∷ 5 ∷ 1 ∷ []) (3 ∷ 11 ∷ 13 ∷ 22 ∷ 0 ∷ [])
+    × Gives inside 1 (0 ∷ 1 ∷ []) (room 5) (0 ∷ 0 ∷ 4 ∷ 5 ∷ 1 ∷ []) (3 ∷ 11 ∷ 13 ∷ 22 ∷ 0 ∷ [])
 
 pub other-answers : OtherAnswers
 unfolding readings paper-rows looking-rows search-rows asking-rows labelled

@@ -1,5 +1,5 @@
 -- One record, read against what is written: it is refused with a number exactly when that number's row applies, and accepted exactly when it
--- is written from a cut, bits and rising slots.
+-- is written from a cut, tidy bits and rising slots.
 use Prim.Native.Nat.{ℕ, _+_, _-_, _*_, _≤_}
 use mathlib.Core.Path.{_≡_, refl, sym, ap, subst, _∙_}
 use mathlib.Core.Logic.{_↔_, _⊎_}
@@ -11,20 +11,21 @@ use lib.ListN.{length, drop, length-append, length-take, length-drop, take-appen
 use lib.Seq.{drop-drop, take-at, drop-at}
 use Rattle.paper.specs.Bytes.{u32Bytes}
 use Rattle.paper.specs.Tail.{Tail, blockCount, readTail}
-use Rattle.paper.specs.Record.{cutOf, tailCount, codeLength, bitLength, bitsOf, behindBits, entriesOf, codesOf, tailIn, tailOf, fault6, recordFault}
+use Rattle.paper.specs.Record.{cutOf, tailCount, codeLength, bitLength, bitsOf, behindBits, entriesOf, codesOf, tailIn, tailOf, fault6, fault17, recordFault}
 use Rattle.paper.specs.Write.{inBlocks, skipEntries}
 use Rattle.laws.proofs.Parts.{AllBytes, all-drop, join-4, all-behind, all-front}
 use Rattle.laws.proofs.Words.{word-read, word-is, word-bound, word-drop}
 use Rattle.laws.proofs.Rounding.{rounds-ceil, rounds-one, rounds-pos}
 use Rattle.laws.proofs.Entries.{entry-is, entry-behind, entry-offset, entries-length}
 use Rattle.laws.proofs.Cutting.{blocks-flat, blocks-length}
-use Rattle.laws.proofs.Records.{Fits, fits-6, pass-6, unfit-6}
+use Rattle.laws.proofs.Records.{Fits, Unset, fits-6, pass-6, unfit-6, pass-17, set-17, unset-17}
 use Rattle.meaning.proofs.Rising.{rise-length}
-use Rattle.promises.proofs.RecordRows.{allCodes, Head, HeadRefused, Parts, RecordRefused, RecordSound}
+use Rattle.promises.proofs.RecordRows.{allCodes, Head, HeadRefused, Parts, Rubbish, Tidy, Stained, RecordRefused, RecordSound}
 use Rattle.promises.proofs.RecordRows.HeadRefused.{cut-above, count-above, codes-alone, sum-wrong}
-use Rattle.promises.proofs.RecordRows.RecordRefused.{six, tail}
+use Rattle.promises.proofs.RecordRows.RecordRefused.{six, seventeen, tail}
+use Rattle.promises.proofs.Beyond.{tidy-unset, rubbish-set, unset-tidy, tidy-or}
 use Rattle.promises.proofs.WrittenBlocks.{Laid, soundTail}
-use Rattle.promises.proofs.WrittenTails.{cut-length, cut-blocks, blocks-cut, codes-length, Fitted, tail-sound, tail-back, tail-told, tail-refused, tail-some}
+use Rattle.promises.proofs.WrittenTails.{cut-length, cut-blocks, blocks-cut, codes-length, Fitted, tail-sound, tail-back, tail-told, tail-refused, tail-span}
 
 -- The head of a record: what its reader says of one that is written
 module _ {r : List ℕ} {c n L : ℕ} {rest : List ℕ} (h : Head r c n L rest) where
@@ -109,7 +110,7 @@ module _ {u B : ℕ} {r : List ℕ} {c n L : ℕ} {bits entries codes : List ℕ
   parts-codes : codeLength r ≡ L
   parts-codes = head-codes (p .head)
 
-  parts-w : length bits ≡ bitLength c
+  pub parts-w : length bits ≡ bitLength c
   parts-w = rounds-one c 8 (length bits) (bitLength c) (p .bits-long) (rounds-ceil c 8 (omega arith))
 
   parts-m : blockCount B n ≡ p .m
@@ -144,11 +145,21 @@ module _ {u B : ℕ} {r : List ℕ} {c n L : ℕ} {bits entries codes : List ℕ
       let lm = parts-m in
       record { cut = omega arith; count = omega arith; no-codes = p .no-codes; sum = rw lm (omega arith) }
 
-  parts-fault : recordFault u B (length r) r ≡ readTail u B c n L entries codes .fault
+  -- behind 6 stands 17, and behind that the tail
+  parts-chain : recordFault u B (length r) r ≡ fault17 c bits (readTail u B c n L entries codes .fault)
   unfolding recordFault
-  parts-fault =
-      rw (parts-tail, parts-cut, parts-count, parts-codes)
-      (pass-6 u B (length r) c n L (readTail u B c n L entries codes .fault) parts-passed)
+  parts-chain =
+      rw (parts-tail, parts-bits, parts-cut, parts-count, parts-codes)
+      (pass-6 u B (length r) c n L (fault17 c bits (readTail u B c n L entries codes .fault)) parts-passed)
+
+  parts-stained : Rubbish c bits → recordFault u B (length r) r ≡ 17
+  parts-stained d = parts-chain ∙ set-17 c bits (readTail u B c n L entries codes .fault) (rubbish-set c bits parts-w d)
+
+  stained-by : Rubbish c bits → Stained u B r
+  stained-by d = record { c = c; n = n; L = L; bits = bits; entries = entries; codes = codes; parts = p; rubbish = d }
+
+  parts-fault : Tidy c bits → recordFault u B (length r) r ≡ readTail u B c n L entries codes .fault
+  parts-fault d = parts-chain ∙ pass-17 c bits (readTail u B c n L entries codes .fault) (tidy-unset c bits parts-w d)
 
   parts-fitted : Fitted B n L (p .m) entries codes
   parts-fitted = record { count = p .blocks; long = p .entries-long; size = p .codes-long; no-codes = p .no-codes }
@@ -163,19 +174,41 @@ module _ {u B : ℕ} {r : List ℕ} {c n L : ℕ} {bits entries codes : List ℕ
     all-code-bytes : AllBytes codes
     all-code-bytes = all-behind entries codes all-parts
 
-    -- where there is no fault, the blocks are laid as they are read
-    pub parts-laid : recordFault u B (length r) r ≡ 0 → Laid u B n c 0 entries codes (tailOf u B r .blocks)
-    parts-laid ok =
-        rw parts-tail (tail-sound u B c n L (p .m) entries codes parts-m parts-fitted all-entries all-code-bytes (sym parts-fault ∙ ok))
+    all-bit-bytes : AllBytes bits
+    all-bit-bytes = all-front bits (entries ++ codes) (rw parts-rest at (all-drop 12 r all))
+
+    -- either row 17 applies or it does not
+    parts-or : Tidy c bits ⊎ Rubbish c bits
+    parts-or = tidy-or c bits parts-w all-bit-bytes
+
+    -- where there is no fault
+    module _ (ok : recordFault u B (length r) r ≡ 0) where
+      passed-17 : Unset c bits × (readTail u B c n L entries codes .fault ≡ 0)
+      passed-17 = unset-17 c bits (readTail u B c n L entries codes .fault) (sym parts-chain ∙ ok)
+
+      -- it does not
+      parts-tidy : Tidy c bits
+      parts-tidy = unset-tidy c bits parts-w all-bit-bytes (passed-17 .0)
+
+      -- and the blocks are laid as they are read
+      pub parts-laid : Laid u B n c 0 entries codes (tailOf u B r .blocks)
+      parts-laid =
+          rw parts-tail (tail-sound u B c n L (p .m) entries codes parts-m parts-fitted all-entries all-code-bytes (passed-17 .1))
 
 join-6 : (a b c d e f : List ℕ) → a ++ b ++ c ++ d ++ e ++ f ≡ a ++ b ++ c ++ (d ++ e ++ f)
 join-6 a b c d e f = simp append-assoc
 
+-- 17 is no other row's number
+pub told-stained : (u B : ℕ) (r : List ℕ) (f : ℕ) → f ≡ 17 → RecordRefused u B r f → Stained u B r
+told-stained u B r f e (six c n L rest h g) = absurd (omega arith)
+told-stained u B r f e (seventeen s) = s
+told-stained u B r f e (tail c n L bits es cs p d t) = let m = tail-span t .1 in absurd (omega arith)
+
 -- a record without fault is written from its parts, and the other way round
 module _ (u B : ℕ) (r : List ℕ) where
-  laid-sound : (c n L : ℕ) (bits entries codes : List ℕ) (bl : List (List ℕ)) → Parts u B r c n L bits entries codes → Laid u B n c 0 entries codes bl
-      → RecordSound u B r
-  laid-sound c n L bits entries codes bl p l =
+  laid-sound : (c n L : ℕ) (bits entries codes : List ℕ) (bl : List (List ℕ)) → Parts u B r c n L bits entries codes → Tidy c bits
+      → Laid u B n c 0 entries codes bl → RecordSound u B r
+  laid-sound c n L bits entries codes bl p d l =
       let few = p .few in
       let size = cut-length B n bl (l .cut) in
       let m = p .m in
@@ -189,6 +222,7 @@ module _ (u B : ℕ) (r : List ℕ) where
         m = m;
         cut-within = omega arith;
         bits-long = p .bits-long;
+        tidy = d;
         rising = l .rising;
         blocks = rw size (p .blocks);
         is = rw (bl-is, size, ← L-is, ← l .entered, ← l .coded) e;
@@ -257,7 +291,7 @@ module _ (u B : ℕ) (r : List ℕ) (small : u ≤ 1048576) (s : RecordSound u B
 
   -- there is no fault
   pub sound-accepted : recordFault u B (length r) r ≡ 0
-  sound-accepted = parts-fault parts₁ ∙ ap (λ (t : Tail). t .fault) read₁
+  sound-accepted = parts-fault parts₁ (s .tidy) ∙ ap (λ (t : Tail). t .fault) read₁
 
   -- the cut is read back
   pub sound-cut : cutOf r ≡ s .cut
@@ -290,6 +324,10 @@ module _ (u B : ℕ) (r : List ℕ) (all : AllBytes r) (pos : 1 ≤ B) (small : 
   abbrev cs₀ : List ℕ
   cs₀ = codesOf m₀ (behindBits r)
 
+  -- what is tested behind 6
+  abbrev behind₀ : ℕ
+  behind₀ = fault17 c₀ (bitsOf r) (tailOf u B r .fault)
+
   -- where row 6 does not apply the record has its parts
   passed-parts : Fits u B (length r) c₀ n₀ L₀ → Parts u B r c₀ n₀ L₀ (bitsOf r) es₀ cs₀
   passed-parts p =
@@ -317,48 +355,63 @@ module _ (u B : ℕ) (r : List ℕ) (all : AllBytes r) (pos : 1 ≤ B) (small : 
   -- row 6, as the whole reader gives it
   judged-6 : (c n L : ℕ) (rest : List ℕ) → Head r c n L rest → HeadRefused u B (length r) c n L → recordFault u B (length r) r ≡ 6
   unfolding recordFault
-  judged-6 c n L rest h g = rw (head-cut h, head-count h, head-codes h) (six-given u B (length r) c n L pos g (tailOf u B r .fault))
+  judged-6 c n L rest h g = six-given u B (length r) c₀ n₀ L₀ pos (rw (head-cut h, head-count h, head-codes h) g) behind₀
 
   -- what a row refuses the reader refuses, with that row's number
   rows-refused : (f : ℕ) → RecordRefused u B r f → (recordFault u B (length r) r ≡ f) × ¬ (f ≡ 0)
   rows-refused f (six c n L rest h g) = (judged-6 c n L rest h g, omega arith)
-  rows-refused f (tail c n L bits es cs p t) =
+  rows-refused f (seventeen s) = (parts-stained (s .parts) (s .rubbish), omega arith)
+  rows-refused f (tail c n L bits es cs p d t) =
       let fit = parts-fitted p in
       let m-is = parts-m p in
-      (parts-fault p ∙ tail-refused u B c n L (p .m) es cs m-is fit small (p .head .code-word) f t, tail-some t)
+      (parts-fault p d ∙ tail-refused u B c n L (p .m) es cs m-is fit small (p .head .code-word) f t, λ z. let s = tail-span t .0 in omega arith)
+
+  -- what the reader refuses behind 6 a row refuses
+  behind-told : Parts u B r c₀ n₀ L₀ (bitsOf r) es₀ cs₀ → ¬ (recordFault u B (length r) r ≡ 0) → RecordRefused u B r (recordFault u B (length r) r)
+  behind-told p f =
+      elim (parts-or p all) [
+        | inl d ↦
+            let e = parts-fault p d in
+            let fit = parts-fitted p in
+            let t = tail-told u B c₀ n₀ L₀ (p .m) es₀ cs₀ (parts-m p) fit (all-entries p all) (all-code-bytes p all) (λ z. f (e ∙ z)) in
+            subst (λ (k : ℕ). RecordRefused u B r k) (sym e) (tail c₀ n₀ L₀ (bitsOf r) es₀ cs₀ p d t)
+        | inr d ↦ subst (λ (k : ℕ). RecordRefused u B r k) (sym (parts-stained p d)) (seventeen (stained-by p d))
+      ]
 
   -- what the reader refuses a row refuses
   rows-told : ¬ (recordFault u B (length r) r ≡ 0) → RecordRefused u B r (recordFault u B (length r) r)
   unfolding recordFault
   rows-told f =
       elim (head-or u B (length r) c₀ n₀ L₀ pos) [
-        | inl g ↦ rw (six-given u B (length r) c₀ n₀ L₀ pos g (tailOf u B r .fault)) (six c₀ n₀ L₀ (drop 12 r) (head-of r all long) g)
-        | inr q ↦
-            let p = passed-parts q in
-            let e = parts-fault p in
-            let fit = parts-fitted p in
-            let t = tail-told u B c₀ n₀ L₀ (p .m) es₀ cs₀ (parts-m p) fit (all-entries p all) (all-code-bytes p all) (λ z. f (e ∙ z)) in
-            subst (λ (k : ℕ). RecordRefused u B r k) (sym e) (tail c₀ n₀ L₀ (bitsOf r) es₀ cs₀ p t)
+        | inl g ↦ rw (six-given u B (length r) c₀ n₀ L₀ pos g behind₀) (six c₀ n₀ L₀ (drop 12 r) (head-of r all long) g)
+        | inr q ↦ behind-told (passed-parts q) f
       ]
 
   -- A record is refused with the number f exactly when f's row applies to it, first in the order of the rows
   pub record-number : (f : ℕ) → ((recordFault u B (length r) r ≡ f) × ¬ (f ≡ 0)) ↔ RecordRefused u B r f
   record-number f = (λ t. subst (λ (k : ℕ). RecordRefused u B r k) (t .0) (rows-told (λ z. t .1 (sym (t .0) ∙ z))), rows-refused f)
 
-  -- An accepted record: its parts, and its blocks as they are laid
+  -- A record is refused with 17 exactly when row 17 applies to it
+  pub record-stained : (recordFault u B (length r) r ≡ 17) ↔ Stained u B r
+  record-stained = (λ e. told-stained u B r 17 refl (record-number 17 .0 (e, λ z. omega arith)), λ s. parts-stained (s .parts) (s .rubbish))
+
+  -- An accepted record: its parts, its bits, and its blocks as they are laid
   pub record Accepted : Type 0 where
     pub parts : Parts u B r c₀ n₀ L₀ (bitsOf r) es₀ cs₀
+    pub tidy : Tidy c₀ (bitsOf r)
     pub laid : Laid u B n₀ c₀ 0 es₀ cs₀ (tailOf u B r .blocks)
 
   -- a record without fault has these
   pub accepted-is : recordFault u B (length r) r ≡ 0 → Accepted
   unfolding recordFault
-  accepted-is ok = let p = passed-parts (fits-6 u B (length r) c₀ n₀ L₀ (tailOf u B r .fault) ok .0) in record { parts = p; laid = parts-laid p all ok }
+  accepted-is ok =
+      let p = passed-parts (fits-6 u B (length r) c₀ n₀ L₀ behind₀ ok .0) in
+      record { parts = p; tidy = parts-tidy p all ok; laid = parts-laid p all ok }
 
-  -- A record is accepted exactly when it is written from a cut, bits, and slots that rise above the cut
+  -- A record is accepted exactly when it is written from a cut, bits up to it, and slots that rise above it
   pub record-sound : (recordFault u B (length r) r ≡ 0) ↔ RecordSound u B r
   record-sound = (
-    λ ok. let t = accepted-is ok in laid-sound u B r c₀ n₀ L₀ (bitsOf r) es₀ cs₀ (tailOf u B r .blocks) (t .parts) (t .laid),
+    λ ok. let t = accepted-is ok in laid-sound u B r c₀ n₀ L₀ (bitsOf r) es₀ cs₀ (tailOf u B r .blocks) (t .parts) (t .tidy) (t .laid),
     sound-accepted u B r small,
   )
 

@@ -1,10 +1,10 @@
--- [Numbers of refusal] Rows 6 to 9 of the table, said of one record's bytes by what is written there and not by how it is read: what stands
+-- [Numbers of refusal] Rows 6 to 9 and 17 of the table, said of one record's bytes by what is written there and not by how it is read: what stands
 -- before the fault is sound, byte for byte as it would be written, and then comes the fault. The rows are gone through in the order in
 -- which an index is looked at, so that at most one number is given. Then which slots a record holds, said in the same way.
 -- `RoundsUp x y m`: m is x / y, rounded up. `Ascends u p xs`: the slots xs rise, each above the one before, the first above p, none above u.
-use Prim.Native.Nat.{ℕ, _+_, _-_, _*_, _≤_, _<_, min}
+use Prim.Native.Nat.{ℕ, _+_, _-_, _*_, _%_, _≤_, _<_, min}
 use mathlib.Core.Path.{_≡_}
-use mathlib.Core.Bool.{Bool, true}
+use mathlib.Core.Bool.{Bool, true, false}
 use mathlib.Core.List.{List, [], _∷_, _++_, map, flatten}
 use lib.ListN.{length}
 use Rattle.paper.specs.Bytes.{u32Bytes}
@@ -148,15 +148,47 @@ pub record Parts (u B : ℕ) (r : List ℕ) (c n L : ℕ) (bits entries codes : 
   -- L code bytes
   pub codes-long : length codes ≡ L
 
--- ROWS 6 TO 9, of a record of at least 12 bytes: the number f is the one given
+-- Row 17, of the bytes of bits of a record with the cut c: the cut ends inside a byte, and beyond it, in that byte, a bit is set
+pub record Rubbish (c : ℕ) (bits : List ℕ) : Type 0 where
+  pub inside : ¬ (c % 8 ≡ 0)
+  -- the bits that the bytes are written from
+  pub t : ℕ → Bool
+  pub written : bits ≡ bitBytes t 1 (length bits)
+  -- one of them is beyond the cut, and no further than the last byte
+  pub x : ℕ
+  pub beyond : c < x
+  pub within : x ≤ 8 * length bits
+  pub set : t x ≡ true
+
+-- Row 17 does not apply: the bytes are written from bits of which none beyond the cut is set
+pub record Tidy (c : ℕ) (bits : List ℕ) : Type 0 where
+  pub t : ℕ → Bool
+  pub written : bits ≡ bitBytes t 1 (length bits)
+  pub unset : (x : ℕ) → c < x → t x ≡ false
+
+-- Row 17 applies to a record: row 6 does not, so that it has the parts that its head says, and its bits have rubbish
+pub record Stained (u B : ℕ) (r : List ℕ) : Type 0 where
+  pub c : ℕ
+  pub n : ℕ
+  pub L : ℕ
+  pub bits : List ℕ
+  pub entries : List ℕ
+  pub codes : List ℕ
+  pub parts : Parts u B r c n L bits entries codes
+  pub rubbish : Rubbish c bits
+
+-- ROWS 6 TO 9 AND 17, of a record of at least 12 bytes: the number f is the one given
 pub data RecordRefused (u B : ℕ) (r : List ℕ) : ℕ → Type 0 where
   -- row 6 applies
   six : (c n L : ℕ) (rest : List ℕ) → Head r c n L rest → HeadRefused u B (length r) c n L → RecordRefused u B r 6
-  -- or it does not, and the tail is refused
-  tail : {f : ℕ} (c n L : ℕ) (bits entries codes : List ℕ) → Parts u B r c n L bits entries codes → TailRefused u B c n L entries codes f
+  -- or it does not, and row 17 applies
+  seventeen : Stained u B r → RecordRefused u B r 17
+  -- or neither does, and the tail is refused
+  tail : {f : ℕ} (c n L : ℕ) (bits entries codes : List ℕ) → Parts u B r c n L bits entries codes → Tidy c bits → TailRefused u B c n L entries codes f
       → RecordRefused u B r f
 
--- NO ROW of 6 to 9: the record is written from a cut, from bytes of bits, and from slots above the cut in blocks of B
+-- NO ROW of 6 to 9 and 17: the record is written from a cut, from bytes of bits with none set beyond the cut, and from slots above the cut in blocks
+-- of B
 pub record RecordSound (u B : ℕ) (r : List ℕ) : Type 0 where
   pub cut : ℕ
   pub bits : List ℕ
@@ -164,8 +196,9 @@ pub record RecordSound (u B : ℕ) (r : List ℕ) : Type 0 where
   pub m : ℕ
   -- the cut is at most u
   pub cut-within : cut ≤ u
-  -- there is a bit for each slot up to the cut, in whole bytes; those beyond the cut may be anything
+  -- there is a bit for each slot up to the cut, in whole bytes; none beyond the cut is set
   pub bits-long : RoundsUp cut 8 (length bits)
+  pub tidy : Tidy cut bits
   -- the slots rise above the cut, and none is above u
   pub rising : Ascends u cut slots
   -- they are in m blocks, all of B slots but perhaps the last

@@ -7,7 +7,7 @@ use native.Mathlib.Nat.{zero-mul}
 use native.Mathlib.Omega.{arith}
 use lib.ListN.{length, take, drop}
 use Rattle.paper.specs.Lists.{onFront}
-use Rattle.paper.specs.Record.{cutOf, tailCount, codeLength, bitsOf, slotsToCut, tailOf, recordFault}
+use Rattle.paper.specs.Record.{cutOf, tailCount, codeLength, bitsOf, slotsToCut, tailOf, fault17, recordFault}
 use Rattle.paper.specs.Held.{contents}
 use Rattle.paper.specs.Write.{encode, writeFault, writtenWith, writeAnswer, writeBuffer, MeetsWrite}
 use Rattle.paper.specs.declared.Verdict.{Verdict}
@@ -22,7 +22,7 @@ use Rattle.meaning.proofs.Parting.{Clean, above, cut-high, join-high}
 use Rattle.promises.proofs.RecordRows.{Holds}
 use Rattle.promises.proofs.IndexRows.{Counts}
 use Rattle.promises.proofs.WrittenTails.{cut-length}
-use Rattle.promises.proofs.WrittenRecords.{written-bytes, record-exact}
+use Rattle.promises.proofs.WrittenRecords.{written-bytes, unused-zero, record-exact}
 use Rattle.promises.proofs.RecordNumbers.{accepted-is}
 use Rattle.promises.proofs.RecordSlots.{record-held}
 use Rattle.promises.proofs.LengthAnswers.{ByVerdict, told-number, told-place, none-told, left-alone, length-told, left-made, front-read, behind-stays, size-stays, row-told}
@@ -46,7 +46,7 @@ module _ (u B : ℕ) (r : List ℕ) (all : AllBytes r) (pos : 1 ≤ B) (small : 
   head-codes : (w m : ℕ) → RoundsUp (cutOf r) 8 w → RoundsUp (tailCount r) B m → 12 + w + 8 * m + codeLength r ≡ length r
   unfolding recordFault
   head-codes w m uw um =
-      let f = fits-6 u B (length r) (cutOf r) (tailCount r) (codeLength r) (tailOf u B r .fault) ok .0 in
+      let f = fits-6 u B (length r) (cutOf r) (tailCount r) (codeLength r) (fault17 (cutOf r) (bitsOf r) (tailOf u B r .fault)) ok .0 in
       let iw = rounds-one (cutOf r) 8 w _ uw (rounds-ceil (cutOf r) 8 (omega arith)) in
       let im = rounds-one (tailCount r) B m _ um (rounds-ceil (tailCount r) B pos) in
       rw (iw, im) (f .sum)
@@ -77,12 +77,12 @@ made-reads u B cut slots w =
     let small = w .cuts .ranges .slots-within .1 in
     let b = written-bytes u B cut slots pos small (w .cuts .cut-within) (w .rising) in
     let t = record-exact u B r (b .0) pos small (b .1) cut slots .1 (w .cuts .cut-within, w .rising, refl) in
-    let tailed = rw (t .2) at (head-count u B r (b .0) pos small (b .1) (t .0) slots (t .3)) in
+    let tailed = rw (t .1) at (head-count u B r (b .0) pos small (b .1) (t .0) slots (t .2)) in
     record {
       accepted = t .0;
-      contents-are = t .3;
-      cut-is = t .2;
-      clean = t .1;
+      contents-are = t .2;
+      cut-is = t .1;
+      clean = unused-zero u B r (b .0) pos small (b .1) (t .0);
       tailed = tailed;
       counted = record {
         slots = above cut slots;
@@ -90,10 +90,10 @@ made-reads u B cut slots w =
         exactly = λ x. high-in cut slots x;
         long = sym tailed;
       };
-      coded = rw (t .2) at (head-codes u B r (b .0) pos small (b .1) (t .0));
+      coded = rw (t .1) at (head-codes u B r (b .0) pos small (b .1) (t .0));
       no-codes = accepted-is u B r (b .0) pos small (b .1) (t .0) .parts .no-codes;
       holds = λ x.
-          let h = rw (t .3) at (record-held u B r (b .0) pos small (b .1) (t .0) x) in
+          let h = rw (t .2) at (record-held u B r (b .0) pos small (b .1) (t .0) x) in
           (λ k. in-has x slots (h .1 k), λ i. h .0 (has-in x slots i));
     }
 

@@ -12,6 +12,8 @@ use native.Mathlib.Omega.{arith}
 use lib.ListN.{length, getD, take, drop, replicate}
 use Rattle.paper.specs.Record.{cutOf, tailCount, codeLength}
 use Rattle.paper.specs.Held.{contents}
+use Rattle.paper.specs.Index.{uOf, blockLength, held}
+use Rattle.paper.specs.OneList.{countAnswer, lent}
 use Rattle.paper.specs.Write.{encode, writeAnswer, MeetsWrite}
 use Rattle.paper.specs.declared.Written.{Written}
 use Rattle.paper.proofs.Hex.{hexF, hex, list0, list1, slots0, slots1}
@@ -32,6 +34,7 @@ use Rattle.promises.proofs.WriteRows.{RecordFor, WriteRefused, WriteAcc
 use Rattle.promises.proofs.WriteBytes as bytes
 use Rattle.promises.proofs.WriteNumbers as numbers
 use Rattle.promises.proofs.WriteAnswers as answers
+use Rattle.promises.proofs.WriteAgain as again
 use Rattle.promises.proofs.WriteExamples as examples
 use Rattle.promises.proofs.WriteExamples.{Writes, Refuses, Shown}
 
@@ -70,13 +73,12 @@ RecordForIs = OfWritten λ u B cut slots. (r : List ℕ) → RecordFor u B cut s
 pub record-for-is : RecordForIs
 record-for-is u B cut slots pos small within a r = (λ f. bytes.for-written f a, λ e. rw e (bytes.written-for u B cut slots pos within a))
 
--- And by reading: bytes that have at least a head are that record exactly when they have no fault and their unused bits are zero, and they read back as this
--- cut and these slots.
+-- And by reading: bytes that have at least a head are that record exactly when they have no fault, and read back as this cut and these slots.
 abbrev pub RecordForReads : Type 0
 RecordForReads =
     OfWritten λ u B cut slots.
     (r : List ℕ) → AllBytes r → 12 ≤ length r
-    → RecordFor u B cut slots r ↔ (Accepted u B r × UnusedZero r × (cutOf r ≡ cut) × (contents u B r ≡ slots))
+    → RecordFor u B cut slots r ↔ (Accepted u B r × (cutOf r ≡ cut) × (contents u B r ≡ slots))
 
 pub record-for-reads : RecordForReads
 record-for-reads u B cut slots pos small within a r all long =
@@ -180,6 +182,18 @@ WritePureGaps =
 
 pub write-pure-gaps : WritePureGaps
 write-pure-gaps = answers.front-gaps
+
+-- [Order 1] THE ROUND TRIP the other way: what is lent of an accepted index, written anew from its cut and the slots that the list holds, is the same
+-- bytes. Every buffer that has room for them will do.
+abbrev pub WriteLent : Type 0
+WriteLent =
+    (bs : List ℕ) (name : ℕ) → AllBytes bs → countAnswer bs name .number ≡ 0 → (before : List ℕ) (answer : Written) (after : List ℕ)
+    → length (lent bs name) ≤ length before → MeetsWrite (uOf bs) (blockLength bs) (cutOf (lent bs name)) (held bs name) before answer after
+    → (answer .number ≡ 0) × (take (answer .length) after ≡ lent bs name)
+
+pub write-lent : WriteLent
+unfolding countAnswer
+write-lent = again.lent-again
 
 -- WHAT STAYS
 

@@ -200,8 +200,8 @@ module _ (u : ℕ) where
   codes-told zero = told-end
   codes-told (suc k) = told-step k (codes-told k)
 
--- a row's number is not 0
-pub codes-some : {u k prev : ℕ} {bytes : List ℕ} {f : ℕ} → CodesRefused u k prev bytes f → ¬ (f ≡ 0)
-codes-some (ill xs t s h i) = omega arith
-codes-some (above xs t w s h i g) = omega arith
-codes-some (remain xs t s h n) = omega arith
+-- the number of a row is 8 or 9
+pub codes-span : {u k prev : ℕ} {bytes : List ℕ} {f : ℕ} → CodesRefused u k prev bytes f → (7 < f) × (f < 10)
+codes-span (ill xs t s h i) = (omega arith, omega arith)
+codes-span (above xs t w s h i g) = (omega arith, omega arith)
+codes-span (remain xs t s h n) = (omega arith, omega arith)

@@ -22,7 +22,7 @@ use Rattle.meaning.proofs.Rising.{rise-join, rise-front, rise-back}
 use Rattle.promises.proofs.RecordRows.{AboveAll, allCodes, Before, Ends, BlockFault}
 use Rattle.promises.proofs.RecordRows.Ends.{at-last, at-next}
 use Rattle.promises.proofs.RecordRows.BlockFault.{back, beyond, low, high, inner}
-use Rattle.promises.proofs.WrittenCodes.{Coded, codes-sound, codes-told, codes-refused, codes-some}
+use Rattle.promises.proofs.WrittenCodes.{Coded, codes-sound, codes-told, codes-refused, codes-span}
 use Rattle.promises.proofs.WrittenBlocks.{first-offset, Room, room-entry, room-own, room-next, block-read}
 
 -- some block is the first that is wrong, of those with entries es and, from offset a on, codes cs
@@ -199,7 +199,7 @@ module _ (u B L : ℕ) (small : u ≤ 1048576) where
           let size : length bytes ≡ z - a = omega arith in
           let own : take (z - a) cs ≡ bytes = rw d (take-at bytes t (z - a) size) in
           let is : readCodes u (min B n - 1) first (take (z - a) cs) .fault ≡ f = rw own (codes-refused u small bytes (min B n - 1) first f c) in
-          rw (blocks-bad u B L k n prev a es cs first z isF isZ l₁ l₂ (l₃ .0) l₄ (λ q. codes-some c (sym is ∙ q))) is
+          rw (blocks-bad u B L k n prev a es cs first z isF isZ l₁ l₂ (l₃ .0) l₄ (λ q. let h = codes-span c .0 in omega arith)) is
 
   module _ (word : L < 4294967296) where
     -- a sound block stands before the one that is wrong

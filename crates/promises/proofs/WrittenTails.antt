@@ -22,7 +22,7 @@ use Rattle.meaning.proofs.Rising.{Ascends, rise-front, rise-back}
 use Rattle.promises.proofs.RecordRows.{AboveAll, allCodes, BlockFault, TailRefused}
 use Rattle.promises.proofs.RecordRows.BlockFault.{back, beyond, low, high, inner}
 use Rattle.promises.proofs.RecordRows.TailRefused.{offset, block}
-use Rattle.promises.proofs.WrittenCodes.{codes-some}
+use Rattle.promises.proofs.WrittenCodes.{codes-span}
 use Rattle.promises.proofs.WrittenBlocks.{first-offset, Cut, Laid, Room, soundTail, blocks-sound, laid-read}
 use Rattle.promises.proofs.WrittenFaults.{blocks-told, blocks-refused}
 
@@ -97,18 +97,19 @@ module _ (u : ℕ) (small : u ≤ 1048576) where
   all-codes-bytes p (b ∷ bl) a =
       all-join (blockCodes b) (allCodes bl) (all-block p b (rise-front u p b (flatten bl) a)) (all-codes-bytes (lastOf p b) bl (rise-back u p b (flatten bl) a))
 
--- a row's number is not 0
-fault-some : {u B L : ℕ} {earlier : List ℕ} {left first start z : ℕ} {own : List ℕ} {f : ℕ} → BlockFault u B L earlier left first start z own f → ¬ (f ≡ 0)
-fault-some (back l) = omega arith
-fault-some (beyond l) = omega arith
-fault-some (low l₁ l₂ l) = omega arith
-fault-some (high l₁ l₂ l) = omega arith
-fault-some (inner bytes r l₁ l₂ l₃ l₄ d i c) = codes-some c
+-- the number of a block's row is 7 to 9
+fault-span : {u B L : ℕ} {earlier : List ℕ} {left first start z : ℕ} {own : List ℕ} {f : ℕ} → BlockFault u B L earlier left first start z own f
+    → (6 < f) × (f < 10)
+fault-span (back l) = (omega arith, omega arith)
+fault-span (beyond l) = (omega arith, omega arith)
+fault-span (low l₁ l₂ l) = (omega arith, omega arith)
+fault-span (high l₁ l₂ l) = (omega arith, omega arith)
+fault-span (inner bytes r l₁ l₂ l₃ l₄ d i c) = let s = codes-span c in (omega (arith, s .0), s .1)
 
--- nor that of a tail
-pub tail-some : {u B c n L : ℕ} {es cs : List ℕ} {f : ℕ} → TailRefused u B c n L es cs f → ¬ (f ≡ 0)
-tail-some (offset x start more e s o) = omega arith
-tail-some (block bl left first start z more own b ends w) = fault-some w
+-- and so is that of a tail
+pub tail-span : {u B c n L : ℕ} {es cs : List ℕ} {f : ℕ} → TailRefused u B c n L es cs f → (6 < f) × (f < 10)
+tail-span (offset x start more e s o) = (omega arith, omega arith)
+tail-span (block bl left first start z more own b ends w) = fault-span w
 
 -- to be above the last of rising slots is to be above all of them
 above-all : (u f c : ℕ) (xs : List ℕ) → Ascends u c xs → lastOf c xs < f → AboveAll f (c ∷ xs)

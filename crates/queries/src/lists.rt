@@ -9,7 +9,7 @@ use slots::count;
 use slots::part;
 use slots::test;
 
-fn test_slot(text: &[u8], index: &[u8], name: u32, slot: u32) {
+pub fn test_slot(text: &[u8], index: &[u8], name: u32, slot: u32) {
     let told = test(index, name, slot);
     label(text);
     refusal(told.number, told.place);
@@ -41,7 +41,7 @@ fn counts() {
     count_list(b"count list 2", &p, 2);
 }
 
-fn part_of(text: &[u8], index: &[u8], name: u32) {
+pub fn part_of(text: &[u8], index: &[u8], name: u32) {
     let told = part(index, name);
     label(text);
     refusal(told.number, told.place);

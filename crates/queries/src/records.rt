@@ -88,10 +88,71 @@ fn sums() {
     look_at(b"L without tail", 32, 2, &[0, 0, 1], b"", &[], b"\x00");
 }
 
+// A list of bits alone, with u 32.
+fn look_at_bits(text: &[u8], cut: u32, bits: &[u8]) {
+    look_at(text, 32, 2, &[cut, 0, 0], bits, &[], b"");
+}
+
+// Slots 1 and 9 with the cut 9, and then with each of the seven unused bits.
+fn unused() {
+    look_at_bits(b"cut 9, bits 80 80", 9, b"\x80\x80");
+    look_at_bits(b"cut 9, bits 80 C0", 9, b"\x80\xC0");
+    look_at_bits(b"cut 9, bits 80 A0", 9, b"\x80\xA0");
+    look_at_bits(b"cut 9, bits 80 90", 9, b"\x80\x90");
+    look_at_bits(b"cut 9, bits 80 88", 9, b"\x80\x88");
+    look_at_bits(b"cut 9, bits 80 84", 9, b"\x80\x84");
+    look_at_bits(b"cut 9, bits 80 82", 9, b"\x80\x82");
+    look_at_bits(b"cut 9, bits 80 81", 9, b"\x80\x81");
+}
+
+// Cuts that end a byte, the cut 0, and the cut u inside a byte.
+fn cuts() {
+    look_at_bits(b"cut 8, bits FF", 8, b"\xFF");
+    look_at_bits(b"cut 0, no bits", 0, b"");
+    look_at_bits(b"cut 32, bits FF FF FF FF", 32, b"\xFF\xFF\xFF\xFF");
+    let all = b"\xFF\xFF\xFF\xF8";
+    look_at(
+        b"u 29, cut 29, bits FF FF FF F8",
+        29,
+        2,
+        &[29, 0, 0],
+        all,
+        &[],
+        b"",
+    );
+    let more = b"\xFF\xFF\xFF\xFC";
+    look_at(
+        b"u 29, cut 29, bits FF FF FF FC",
+        29,
+        2,
+        &[29, 0, 0],
+        more,
+        &[],
+        b"",
+    );
+}
+
+// An unused bit beside another fault of the record: 6 is judged before it, the blocks behind it.
+fn beside() {
+    look_at(b"6 and 17", 32, 2, &[9, 0, 1], b"\x80\xC0", &[], b"\x00");
+    look_at(
+        b"17 and a faulty block",
+        32,
+        2,
+        &[9, 1, 0],
+        b"\x80\xC0",
+        &[9, 0],
+        b"",
+    );
+}
+
 // All lines of this part, in their order.
 pub fn run() {
     order();
     codes();
     blocks();
     sums();
+    unused();
+    cuts();
+    beside();
 }

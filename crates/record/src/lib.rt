@@ -12,6 +12,7 @@ ghost use Rattle.paper.specs.Held.{countOf};
 ghost use Rattle.record.specs.Opened.{Opened, LiesAt};
 use codes::check_codes;
 use words::ones_to;
+use words::rubbish;
 use words::u32_at;
 
 // x / y, rounded up. The sum is taken in 64 bits, where it cannot wrap.
@@ -101,7 +102,7 @@ fn stray(n: u32, len: u32) -> bool
     n == 0 && 0 < len
 }
 
-// The first fault of a record, 6 to 9, or 0. None of its bytes is read twice, and those of its bits not at all.
+// The first fault of a record, 6 to 9 or 17, or 0. None of its bytes is read twice, and of those of its bits only the last.
 pub fn check_record(rec: &[u8], u: u32, block: u32) -> u32
     requires { ⌜ (12 ≤ length (now rec)) × (0 < block) ⌝ }
     ensures { λ r. ⌜ r ≡ recordFault u block (length (now (rec .entry))) (now (rec .entry)) ⌝ }
@@ -123,6 +124,9 @@ pub fn check_record(rec: &[u8], u: u32, block: u32) -> u32
     let to = from + 8 * m;
     if to + len as usize != rec.len() {
         return 6;
+    }
+    if rubbish(&rec[12..from], cut) {
+        return 17;
     }
     check_tail(&rec[from..to], &rec[to..], block, m, n, cut, u)
 }

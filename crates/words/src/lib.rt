@@ -1,10 +1,12 @@
-// Numbers of four bytes, read and written, and the bits of a bit part: one bit, setting one, and how many are set up to a cut.
+// Numbers of four bytes, read and written, and the bits of a bit part: one bit, setting one, whether any is set beyond a cut, and how many are
+// set up to it.
 ghost use mathlib.Core.Path.{_≡_};
 ghost use Prim.Native.Nat.{_+_, _*_, _≤_, _<_};
+ghost use lib.Dec.{ltb};
 ghost use lib.ListN.{length};
 ghost use lib.Seq.{sets};
 ghost use Rattle.paper.specs.Bytes.{byteAt, u32At, u32Bytes};
-ghost use Rattle.paper.specs.Record.{bitAt, slotsToCut};
+ghost use Rattle.paper.specs.Record.{bitAt, nextBit, unused, slotsToCut};
 ghost use Rattle.words.specs.Marks.{withBit};
 ghost use Rattle.words.specs.Ones.{topOnes};
 
@@ -53,6 +55,21 @@ pub fn put_bit(bits: &mut [u8], x: u32)
     let before = x - 1;
     let at = (before / 8) as usize;
     bits[at] = bits[at] | (1 << (7 - before % 8));
+}
+
+// Whether a bit beyond the cut is set. Such bits are the digits below the cut's own, in its byte, and the mask has a 1 for each. The cut 0 has no
+// byte.
+pub fn rubbish(bits: &[u8], cut: u32) -> bool
+    requires { ⌜ cut ≤ 8 * length (now bits) ⌝ }
+    ensures { λ r. ⌜ r ≡ ltb 0 (nextBit (now (bits .entry)) (cut + 1) (unused cut)) ⌝ }
+{
+    if cut == 0 {
+        return false;
+    }
+    let before = cut - 1;
+    let at = (before / 8) as usize;
+    let mask = (1 << (7 - before % 8)) - 1;
+    0 < (bits[at] & mask)
 }
 
 // How many of the top p bits of a byte are set.

@@ -230,14 +230,13 @@ fn gallops(deck: &mut Deck, random: &mut Random) {
 }
 
 fn packings(deck: &mut Deck, random: &mut Random) {
-    deck.ask(
-        "bits behind the cut are ignored",
-        &rubbish(),
-        SKIPS,
-        &[0, 1],
-        &slots(random, 5),
-    );
-    deck.ask("an empty list, no room", &rubbish(), SKIPS, &[1, 2, 0], &[]);
+    let five = slots(random, 5);
+    deck.ask("a cut within a byte", &mixed(), SKIPS, &[0, 1], &five);
+    let label = "bits behind the cut are refused";
+    deck.ask(label, &rubbish(), SKIPS, &[0, 1], &five);
+    let label = "bits behind the cut of a list not named, plainly";
+    deck.ask(label, &rubbish(), PLAIN, &[0], &five);
+    deck.ask("an empty list, no room", &mixed(), SKIPS, &[1, 2, 0], &[]);
 
     let apart = [
         record(40, 2, 0, &[2, 11, 20, 31]),

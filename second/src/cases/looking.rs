@@ -9,6 +9,7 @@ pub fn add(deck: &mut Deck, random: &mut Random) {
     trailer(deck);
     directory(deck);
     parts(deck);
+    unused(deck);
     offsets(deck);
     codes(deck);
     order(deck);
@@ -27,9 +28,11 @@ fn accepted(deck: &mut Deck, random: &mut Random) {
         "codes of one, two and three bytes, largest u",
         &one(1_048_576, 8, far),
     );
-    let mut full = record(13, 128, 13, &[1, 2, 8, 13]);
-    full[13] |= 0x07;
-    deck.look("cut = u, bits behind it set, B 128", &one(13, 128, full));
+    let full = record(13, 128, 13, &[1, 2, 8, 13]);
+    deck.look("cut = u within a byte, B 128", &one(13, 128, full));
+    let slots: Vec<u32> = (9..=16).chain([20]).collect();
+    let whole = record(32, 4, 16, &slots);
+    deck.look("a full last byte of bits", &one(32, 4, whole));
 
     let mut records = Vec::new();
     for cut in [0, 7, 8, 30, 60] {
@@ -100,6 +103,37 @@ fn parts(deck: &mut Deck) {
     );
     let wild_l = raw([0, 1, WILD - 7], &[], &[], &[]);
     deck.look("L whose sum wraps", &one(32, 4, wild_l));
+}
+
+/// Bits that lie behind the cut.
+fn unused(deck: &mut Deck) {
+    let full = record(13, 128, 13, &[1, 2, 8, 13]);
+    let all = with_byte(&full, 13, full[13] | 0x07);
+    deck.look("cut = u, all bits behind it set", &one(13, 128, all));
+    let ends = |last: u8| raw([9, 0, 0], &[0x80, last], &[], &[]);
+    deck.look(
+        "the lowest bit of the last byte set",
+        &one(32, 4, ends(0x81)),
+    );
+    deck.look("the bit next to the cut set", &one(32, 4, ends(0x40)));
+    let seven = raw([15, 0, 0], &[0x00, 0x01], &[], &[]);
+    deck.look("the only bit behind the cut set", &one(32, 4, seven));
+
+    let idle = raw([9, 0, 1], &[0x80, 0xC0], &[], &[0]);
+    deck.look("6 before 17", &one(32, 4, idle));
+    let late = raw([9, 1, 0], &[0x80, 0xC0], &[(10, 1)], &[]);
+    deck.look("17 before 7", &one(32, 4, late));
+    let more = raw([9, 1, 1], &[0x80, 0xC0], &[(10, 0)], &[0]);
+    deck.look("17 before 8", &one(32, 4, more));
+    let low = raw([9, 1, 0], &[0x80, 0xC0], &[(9, 0)], &[]);
+    deck.look("17 before 9", &one(32, 4, low));
+    let high = gaps(1, &[(33, 0)], &[]);
+    let records = [high, ends(0xC0)];
+    deck.look("9 of list 0 before 17 of list 1", &index(32, 4, &records));
+    let records = [ends(0xC0), raw([33, 0, 0], &[], &[], &[])];
+    deck.look("17 of list 0 before 6 of list 1", &index(32, 4, &records));
+    let records = [ends(0x80), ends(0x00), ends(0xFF)];
+    deck.look("17 in list 2", &index(32, 4, &records));
 }
 
 fn offsets(deck: &mut Deck) {

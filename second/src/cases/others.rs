@@ -16,13 +16,14 @@ pub fn add(deck: &mut Deck, random: &mut Random) {
 
 fn testing(deck: &mut Deck) {
     let paper = paper();
-    let rubbish = rubbish();
+    let mixed = mixed();
     deck.test("in the tail", &paper, 0, 5);
     deck.test("behind the last slot", &paper, 0, 32);
     deck.test("slot 0", &paper, 0, 0);
     deck.test("slot u + 1", &paper, 1, 33);
-    deck.test("last bit before the cut", &rubbish, 1, 11);
-    deck.test("a bit behind the cut", &rubbish, 1, 12);
+    deck.test("last bit before the cut", &mixed, 1, 11);
+    deck.test("first slot behind the cut", &mixed, 1, 12);
+    deck.test("bits behind the cut are refused", &rubbish(), 0, 3);
     deck.test("name k", &paper, 2, 5);
     deck.test("name wild, slot 0", &paper, WILD, 0);
     let damaged = with_byte(&paper, 54, 0x81);
@@ -32,7 +33,8 @@ fn testing(deck: &mut Deck) {
 fn counting(deck: &mut Deck) {
     let paper = paper();
     deck.count("a tail only", &paper, 0);
-    deck.count("bits behind the cut", &rubbish(), 1);
+    deck.count("a cut within a byte", &mixed(), 1);
+    deck.count("bits behind the cut are refused", &rubbish(), 1);
     deck.count("name k", &paper, 2);
     deck.count("name wild", &paper, WILD);
     let first = with_byte(&paper, 69, 0x10);
@@ -43,7 +45,8 @@ fn lending(deck: &mut Deck) {
     let paper = paper();
     deck.part("the first record", &paper, 0);
     deck.part("the last record", &paper, 1);
-    deck.part("bits behind the cut are lent", &rubbish(), 1);
+    deck.part("a cut within a byte", &mixed(), 1);
+    deck.part("bits behind the cut are refused", &rubbish(), 1);
     deck.part("name k", &paper, 2);
     deck.part("name wild", &paper, WILD);
     let head = with_byte(&paper, 63, 0x03);
@@ -148,6 +151,21 @@ fn closing(deck: &mut Deck, random: &mut Random) {
     let low = with_byte(&exact, 36, 25);
     deck.close("a first slot too low", &low, [32, 4, 79], &at);
     deck.close("u below the last slot", &exact, [30, 4, 79], &at);
+    closing_rubbish(deck, &exact);
+}
+
+/// List 1's cut made 15, so that its last bit, slot 16's, lies behind the cut.
+fn closing_rubbish(deck: &mut Deck, exact: &[u8]) {
+    let sizes = [32, 4, 79];
+    let at = [0, 55];
+    let dirty = with_byte(exact, 55, 15);
+    deck.close("a bit behind the cut is refused", &dirty, sizes, &at);
+    let clean = with_byte(&dirty, 68, 0x10);
+    deck.close("the same bit clear", &clean, sizes, &at);
+    let low = with_byte(&dirty, 69, 15);
+    deck.close("17 before 9 of its list", &low, sizes, &at);
+    let falls = with_byte(&dirty, 12, 0);
+    deck.close("9 of list 0 before 17 of list 1", &falls, sizes, &at);
 }
 
 fn programs(deck: &mut Deck) {

@@ -106,16 +106,24 @@ pub fn paper() -> Vec<u8> {
     index(32, 4, &paper_records())
 }
 
-/// Three lists of which list 1 ends its bits within a byte, with set bits
-/// behind the cut.
-pub fn rubbish() -> Vec<u8> {
-    let mut mixed = record(32, 2, 11, &[2, 3, 11, 13, 14, 20, 22, 31]);
-    mixed[13] |= 0x1F;
-    let records = [
+/// Three lists of which list 1 ends its bits within a byte.
+fn mixed_records() -> Vec<Vec<u8>> {
+    vec![
         record(32, 2, 0, &[3, 11, 12, 13, 22]),
-        mixed,
+        record(32, 2, 11, &[2, 3, 11, 13, 14, 20, 22, 31]),
         record(32, 2, 0, &[]),
-    ];
+    ]
+}
+
+/// The index of these lists.
+pub fn mixed() -> Vec<u8> {
+    index(32, 2, &mixed_records())
+}
+
+/// The same index with all bits set that lie behind list 1's cut.
+pub fn rubbish() -> Vec<u8> {
+    let mut records = mixed_records();
+    records[1][13] |= 0x1F;
     index(32, 2, &records)
 }
 

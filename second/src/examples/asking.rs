@@ -1,6 +1,7 @@
 //! Examples of questions, of the operations on one list, and of the search.
 
-use super::{paper, Page};
+use super::{paper, rubbish_records, Page};
+use crate::bytes::put_number;
 use crate::cases::shape::{index, record, with_byte, PAPER_0};
 use crate::look::open;
 use crate::search::search;
@@ -88,11 +89,17 @@ pub fn made_lists(page: &mut Page) {
     page.ask("rising counts", &rising, SKIPS, &[0, 1, 2], ROOM);
     let label = "rising counts, names 2 1 0";
     page.ask(label, &rising, SKIPS, &[2, 1, 0], ROOM);
+    rubbish(page);
+}
 
-    let clean = record(32, 2, 11, &[2, 3, 11, 13, 14, 20, 22, 31]);
-    let dirty = with_byte(&clean, 13, clean[13] | 0x1F);
-    let few = record(32, 2, 0, &[3, 11, 12, 13, 22]);
-    let rubbish = index(32, 2, &[few, dirty]);
-    page.ask("rubbish behind the cut", &rubbish, SKIPS, &[0, 1], ROOM);
-    page.count("rubbish behind the cut, count list 1", &rubbish, 1);
+/// Set bits behind a cut, met by every operation, and behind another fault.
+fn rubbish(page: &mut Page) {
+    let mut dirty = index(32, 2, &rubbish_records());
+    page.look("rubbish behind the cut, look", &dirty);
+    page.ask("rubbish behind the cut", &dirty, SKIPS, &[0, 1], ROOM);
+    page.count("rubbish behind the cut, count list 1", &dirty, 1);
+    page.test("rubbish behind the cut, test 3 in list 0", &dirty, 0, 3);
+    page.part("rubbish behind the cut, part of list 1", &dirty, 1);
+    put_number(&mut dirty, 12, 0);
+    page.look("rubbish in list 1, a fault in list 0", &dirty);
 }

@@ -59,3 +59,23 @@ pub fn entries(page: &mut Page) {
     let tailless = gaps(0, &[], &[0]);
     page.look("L without tail", &one(32, 2, tailless));
 }
+
+/// Bits behind the cut, one by one, and cuts that leave none.
+pub fn unused_bits(page: &mut Page) {
+    let bits = |u, cut, bits: &[u8]| one(u, 2, raw([cut, 0, 0], bits, &[], &[]));
+    for last in [0x80, 0xC0, 0xA0, 0x90, 0x88, 0x84, 0x82, 0x81] {
+        let label = format!("cut 9, bits 80 {last:02X}");
+        page.look(&label, &bits(32, 9, &[0x80, last]));
+    }
+    page.look("cut 8, bits FF", &bits(32, 8, &[0xFF]));
+    page.look("cut 0, no bits", &bits(32, 0, &[]));
+    page.look("cut 32, bits FF FF FF FF", &bits(32, 32, &[0xFF; 4]));
+    let (full, over) = ([0xFF, 0xFF, 0xFF, 0xF8], [0xFF, 0xFF, 0xFF, 0xFC]);
+    page.look("u 29, cut 29, bits FF FF FF F8", &bits(29, 29, &full));
+    page.look("u 29, cut 29, bits FF FF FF FC", &bits(29, 29, &over));
+
+    let idle = raw([9, 0, 1], &[0x80, 0xC0], &[], &[0]);
+    page.look("6 and 17", &one(32, 2, idle));
+    let low = raw([9, 1, 0], &[0x80, 0xC0], &[(9, 0)], &[]);
+    page.look("17 and a faulty block", &one(32, 2, low));
+}

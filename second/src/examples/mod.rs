@@ -21,11 +21,13 @@ pub fn all() -> Vec<String> {
     asking::made_lists(&mut page);
     looking::codes(&mut page);
     looking::entries(&mut page);
+    looking::unused_bits(&mut page);
     writing::gaps(&mut page);
     writing::records(&mut page);
     writing::refusals(&mut page);
     writing::closing(&mut page);
     writing::closing_refused(&mut page);
+    writing::closing_rubbish(&mut page);
     page.lines
 }
 
@@ -41,6 +43,17 @@ fn paper_records() -> [Vec<u8>; 2] {
     [
         raw([0, 15, 11], &[], &entries, &codes),
         raw([16, 3, 2], &[0x28, 0x11], &[(26, 0)], &[3, 0]),
+    ]
+}
+
+/// Two lists of which list 1 has all bits set behind its cut, which is 11: from
+/// the top its second bit byte has the bits 9, 10, 11 and five that are no slot's.
+fn rubbish_records() -> [Vec<u8>; 2] {
+    let few = [(3, 0), (12, 1), (22, 2)];
+    let many = [(13, 0), (20, 1), (31, 2)];
+    [
+        raw([0, 5, 2], &[], &few, &[7, 0]),
+        raw([11, 5, 2], &[0x60, 0x20 | 0x1F], &many, &[0, 1]),
     ]
 }
 

@@ -1,7 +1,7 @@
 //! Examples of writing records and closing an index.
 
-use super::{paper, paper_records, Page, DUST};
-use crate::cases::shape::{PAPER_0, PAPER_1};
+use super::{paper, paper_records, rubbish_records, Page, DUST};
+use crate::cases::shape::{starts, PAPER_0, PAPER_1};
 
 /// Bytes for which there is room where an example says nothing else.
 const ROOM: usize = 64;
@@ -63,4 +63,14 @@ pub fn closing_refused(page: &mut Page) {
     let wild = [32, 4, 0xFFFF_FFFF];
     page.close("close total FFFFFFFF", &whole, wild, &[0, 55]);
     page.close("close B 129", &whole, [32, 129, 79], &[]);
+}
+
+/// Records of which the second has set bits behind its cut.
+pub fn closing_rubbish(page: &mut Page) {
+    let records = rubbish_records();
+    let bytes = records.concat();
+    let mut room = [DUST; 143];
+    room[..bytes.len()].copy_from_slice(&bytes);
+    let sizes = [32, 2, bytes.len() as u32];
+    page.close("close rubbish", &room, sizes, &starts(&records));
 }

@@ -116,7 +116,7 @@ fn form_and_size() {
         ("line", 2),
     ]);
     let cases = cases();
-    assert!((140..=170).contains(&cases.len()), "{}", cases.len());
+    assert!((140..=195).contains(&cases.len()), "{}", cases.len());
     assert!(all().iter().map(|line| line.len() + 1).sum::<usize>() < 120_000);
     let mut labels = BTreeSet::new();
     let mut operations = BTreeMap::new();
@@ -161,17 +161,17 @@ fn every_number_is_given() {
             *by_operation.entry((case.operation, number)).or_insert(0) += 1;
         }
     }
-    for number in 0..=16 {
+    for number in 0..=17 {
         assert!(overall.get(&number) >= Some(&2), "{number}");
     }
     let own: [(&str, &[u32]); 7] = [
-        ("look", &[0, 1, 2, 3, 4, 5, 6, 7, 8, 9]),
+        ("look", &[0, 1, 2, 3, 4, 5, 6, 7, 8, 9, 17]),
         ("ask", &[0, 10, 11, 12, 14]),
         ("test", &[0, 11, 16]),
         ("count", &[0, 11]),
         ("part", &[0, 11]),
         ("write", &[0, 4, 12, 13, 15]),
-        ("close", &[0, 1, 4, 5, 6, 7, 8, 9, 12]),
+        ("close", &[0, 1, 4, 5, 6, 7, 8, 9, 12, 17]),
     ];
     for (operation, numbers) in own {
         for &number in numbers {
@@ -183,6 +183,8 @@ fn every_number_is_given() {
     for operation in ["ask", "test", "count", "part"] {
         let bad = (1..=9).any(|n| by_operation.contains_key(&(operation.to_string(), n)));
         assert!(bad, "{operation}");
+        let rubbish = by_operation.contains_key(&(operation.to_string(), 17));
+        assert!(rubbish, "17 of {operation}");
     }
 }
 
@@ -246,6 +248,23 @@ fn faults(index: &[u8]) -> Vec<Fault> {
     faults
 }
 
+/// Which bits behind the cut are set, where there are any.
+fn unused_bits(bits: &[u8], cut: u64) -> Option<&'static str> {
+    let set: Vec<u64> = (0..8 * bits.len() as u64)
+        .filter(|&i| bits[i as usize / 8] >> (7 - i % 8) & 1 == 1)
+        .map(|i| i + 1)
+        .filter(|&x| x > cut)
+        .collect();
+    match set[..] {
+        [] => None,
+        [x] if x == cut + 1 && x % 8 == 0 => Some("only bit behind c"),
+        [x] if x == cut + 1 => Some("bit next to c"),
+        [x] if x % 8 == 0 => Some("lowest bit behind c"),
+        [_] => Some("a bit behind c"),
+        _ => Some("bits behind c"),
+    }
+}
+
 fn record_faults(record: &[u8], u: u64, block: u64) -> Vec<(u32, &'static str)> {
     let word = |at: u64| {
         let at = at as usize;
@@ -271,7 +290,10 @@ fn record_faults(record: &[u8], u: u64, block: u64) -> Vec<(u32, &'static str)> 
     } else if whole > length {
         faults.push((6, "parts more"));
     }
-    if !faults.is_empty() {
+    if c <= u && skips <= length {
+        faults.extend(unused_bits(&record[12..skips as usize], c).map(|why| (17, why)));
+    }
+    if faults.first().is_some_and(|&(number, _)| number == 6) {
         return faults;
     }
     let mut highest = c;
@@ -371,7 +393,7 @@ fn looking_finds_the_first_fault() {
         let number = case.number(at);
         let place = case.number(at + 1);
         match faults(&case.bytes(0)).first() {
-            None => assert!(number == 0 || number > 9, "{}", case.label),
+            None => assert!([0, 10, 11, 12, 14, 16].contains(&number), "{}", case.label),
             Some(&(n, list, _)) => assert_eq!((number, place), (n, list), "{}", case.label),
         }
     }
@@ -413,6 +435,10 @@ fn every_reason_of_looking_is_there() {
         "n 0, L not",
         "parts less",
         "parts more",
+        "only bit behind c",
+        "bit next to c",
+        "lowest bit behind c",
+        "bits behind c",
         "first offset",
         "end before start",
         "end beyond L",
@@ -433,7 +459,7 @@ fn every_reason_of_looking_is_there() {
     ] {
         assert!(first.contains(why), "{why}");
     }
-    for number in 6..=9 {
+    for number in [6, 7, 8, 9, 17] {
         assert!(lists.contains(&(number, false)), "{number} in list 0");
         assert!(lists.contains(&(number, true)), "{number} in a later list");
     }
@@ -445,6 +471,12 @@ fn every_reason_of_looking_is_there() {
         (9, 8, true),
         (8, 9, true),
         (9, 6, false),
+        (6, 17, true),
+        (17, 7, true),
+        (17, 8, true),
+        (17, 9, true),
+        (9, 17, false),
+        (17, 6, false),
     ] {
         assert!(pairs.contains(&pair), "{pair:?}");
     }
@@ -565,6 +597,28 @@ fn answers_agree_with_the_model() {
 }
 
 #[test]
+fn sound_cuts_within_a_byte() {
+    let mut seen = Seen::default();
+    for (operation, number) in [("ask", 4), ("test", 3), ("count", 2), ("part", 2)] {
+        for case in of(operation) {
+            if case.number(number) != 0 {
+                continue;
+            }
+            let name = match operation {
+                "ask" => case.list(2)[0],
+                _ => case.number(1),
+            };
+            let list = model::read(&case.bytes(0)).lists.remove(name as usize);
+            // A slot of the last bit byte is held.
+            let last = |x: &u32| x.div_ceil(8) == list.cut.div_ceil(8);
+            let held = list.bits.last().is_some_and(last);
+            seen.note(operation, !list.cut.is_multiple_of(8) && held);
+        }
+    }
+    seen.expect(1);
+}
+
+#[test]
 fn questions_of_every_kind() {
     let mut seen = Seen::default();
     let mut code_sizes = [0; 3];
@@ -621,8 +675,8 @@ fn questions_of_every_kind() {
             case.number(6) == 0 && before.len() > least,
         );
         seen.note(
-            "rubbish behind a cut",
-            (0..names.len()).any(|i| named(i).rubbish),
+            "a cut within a byte",
+            (0..names.len()).any(|i| named(i).cut % 8 != 0 && !named(i).bits.is_empty()),
         );
         for i in 0..names.len() {
             for (size, sum) in code_sizes.iter_mut().enumerate() {
@@ -739,7 +793,7 @@ fn writes_of_every_kind() {
         assert!(before.iter().all(|&byte| byte != 0));
         let index = crate::tools::join(u, block, &[after[..length].to_vec()]);
         let list = &model::read(&index).lists[0];
-        assert_eq!((list.slots(), list.rubbish), (slots.clone(), false));
+        assert_eq!(list.slots(), slots);
         for (size, sum) in code_sizes.iter_mut().enumerate() {
             *sum += list.code_sizes[size];
         }
@@ -792,6 +846,7 @@ fn closings_of_every_kind() {
         );
         seen.note("list 0 damaged", (6..=9).contains(&number) && place == 0);
         seen.note("list 1 damaged", (6..=9).contains(&number) && place == 1);
+        seen.note("a bit behind a cut", number == 17 && place == 1);
         if number != 0 {
             assert_eq!((length, before), (0, after));
             continue;
@@ -799,6 +854,11 @@ fn closings_of_every_kind() {
         assert_eq!(before[..total], after[..total]);
         assert_eq!(before[length..], after[length..]);
         assert!(faults(&after[..length]).is_empty());
+        let lists = model::read(&after[..length]).lists;
+        seen.note(
+            "a cut within a byte",
+            lists.iter().any(|list| list.cut % 8 != 0),
+        );
         seen.note("room exact", before.len() == length);
         seen.note("room larger", before.len() > length);
     }

@@ -37,13 +37,45 @@ fn one_empty_list() {
 }
 
 #[test]
-fn bits_behind_the_cut_stay() {
-    let mut before = room(32);
-    before[55] = 15;
-    let mut room = before.clone();
-    assert_eq!(close(&mut room, 32, 4, 79, &[0, 55]), wrote(0, 0, 111));
-    assert_eq!(room[..79], before[..79]);
-    answers(&room, 0, &[1], 6, &[3, 5, 12, 26, 30, 31], (0, 0));
+fn bits_behind_the_cut() {
+    let sizes = [32, 4, 79];
+    // With cut 15 the last bit of 28 11, that of slot 16, lies behind it.
+    let dirty = poke(&room(32), 55, 15);
+    closes_not(&dirty, sizes, &[0, 55], 17, 1);
+    let mut clean = poke(&dirty, 68, 0x10);
+    let before = clean.clone();
+    assert_eq!(close(&mut clean, 32, 4, 79, &[0, 55]), wrote(0, 0, 111));
+    assert_eq!(clean[..79], before[..79]);
+    answers(&clean, 0, &[1], 6, &[3, 5, 12, 26, 30, 31], (0, 0));
+
+    // Behind list 1's 6 and list 0's 9, before list 1's own 7, 8 and 9.
+    closes_not(&poke(&dirty, 63, 3), sizes, &[0, 55], 6, 1);
+    closes_not(&poke(&dirty, 12, 0), sizes, &[0, 55], 9, 0);
+    closes_not(&poke(&dirty, 73, 1), sizes, &[0, 55], 17, 1);
+    closes_not(&poke(&dirty, 78, 0x80), sizes, &[0, 55], 17, 1);
+    closes_not(&poke(&dirty, 69, 15), sizes, &[0, 55], 17, 1);
+    // Behind the checks that are no list's.
+    closes_not(&dirty, [0, 4, 79], &[0, 55], 4, 0);
+    closes_not(&dirty[..110], sizes, &[0, 55], 12, 111);
+    closes_not(&dirty, sizes, &[0, 54, 55], 12, 115);
+    closes_not(&dirty, sizes, &[1, 55], 5, 0);
+}
+
+#[test]
+fn bits_behind_the_cut_in_the_first_list() {
+    let list = |last: u8| raw(9, 0, 0, &[0x80, last], &[], &[]);
+    let bytes = |first: u8, second: u8| {
+        let records = [list(first), list(second)];
+        [&records.concat()[..], &[DUST; 40]].concat()
+    };
+    closes_not(&bytes(0xC0, 0x80), [9, 4, 28], &[0, 14], 17, 0);
+    closes_not(&bytes(0x81, 0xFF), [9, 4, 28], &[0, 14], 17, 0);
+    closes_not(&bytes(0x80, 0x01), [9, 4, 28], &[0, 14], 17, 1);
+    // 17 of list 0 before 6 of list 1, whose bytes are one too many.
+    closes_not(&bytes(0xC0, 0x80), [9, 4, 29], &[0, 14], 17, 0);
+    closes_not(&bytes(0x80, 0x80), [9, 4, 29], &[0, 14], 6, 1);
+    let mut sound = bytes(0x80, 0x00);
+    assert_eq!(close(&mut sound, 9, 4, 28, &[0, 14]), wrote(0, 0, 60));
 }
 
 #[test]

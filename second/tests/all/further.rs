@@ -54,27 +54,27 @@ fn lists_by_rising_count() {
 
 #[test]
 fn bits_behind_the_cut() {
-    let mut mixed = written(32, 2, 11, &[2, 3, 11, 13, 14, 20, 22, 31]);
-    let clean = join(
-        32,
-        2,
-        &[written(32, 2, 0, &[3, 11, 12, 13, 22]), mixed.clone()],
-    );
-    mixed[13] |= 0x1F;
-    let index = join(
-        32,
-        2,
-        &[written(32, 2, 0, &[3, 11, 12, 13, 22]), mixed.clone()],
-    );
-    for index in [&clean, &index] {
-        looks_like(index, 0, 0);
-        answers(index, 1, &[0, 1], 5, &[3, 11, 13, 22], (5, 1));
-        answers(index, 0, &[0, 1], 5, &[3, 11, 13, 22], (0, 0));
-        assert_eq!(count(index, 1), counted(0, 0, 8));
-        assert_eq!(test(index, 1, 12), tested(0, 0, false));
-    }
-    // A lent record has those bits as they lie.
+    let few = written(32, 2, 0, &[3, 11, 12, 13, 22]);
+    let mixed = written(32, 2, 11, &[2, 3, 11, 13, 14, 20, 22, 31]);
+    let index = join(32, 2, &[few.clone(), mixed.clone()]);
+    looks_like(&index, 0, 0);
+    answers(&index, 1, &[0, 1], 5, &[3, 11, 13, 22], (5, 1));
+    answers(&index, 0, &[0, 1], 5, &[3, 11, 13, 22], (0, 0));
+    assert_eq!(count(&index, 1), counted(0, 0, 8));
+    assert_eq!(test(&index, 1, 12), tested(0, 0, false));
     assert_eq!(lend(&index, 1), mixed);
+
+    // Slot 11 is the third bit of the second byte; five bits follow it.
+    let dirty = poke(&mixed, 13, 0x20 | 0x1F);
+    let index = join(32, 2, &[few, dirty]);
+    looks_like(&index, 17, 1);
+    refuses(&index, 1, &[0, 1], 5, 17, 1);
+    refuses(&index, 0, &[0], 5, 17, 1);
+    assert_eq!(count(&index, 1), counted(17, 1, 0));
+    assert_eq!(test(&index, 0, 3), tested(17, 1, false));
+    assert!(lend(&index, 1).is_empty());
+    // List 0's first slot made 0 is found before.
+    looks_like(&put(&index, 12, 0), 9, 0);
 }
 
 #[test]

@@ -7,8 +7,6 @@ pub struct List {
     pub cut: u32,
     pub bits: Vec<u32>,
     pub tail: Vec<u32>,
-    /// Whether a bit behind the cut is set.
-    pub rubbish: bool,
     /// How many codes of one, two and three bytes there are.
     pub code_sizes: [usize; 3],
 }
@@ -61,13 +59,11 @@ fn read_list(record: &[u8], block: usize) -> List {
     let mut codes = record[12 + bit_bytes + 8 * firsts.len()..].iter();
 
     let mut bits = Vec::new();
-    let mut rubbish = false;
     for (i, byte) in bit_part.iter().enumerate() {
         for (slot, digit) in (8 * i as u32 + 1..).zip(format!("{byte:08b}").chars()) {
-            if digit == '1' && slot <= cut {
+            if digit == '1' {
+                assert!(slot <= cut, "bit {slot} behind cut {cut}");
                 bits.push(slot);
-            } else if digit == '1' {
-                rubbish = true;
             }
         }
     }
@@ -96,7 +92,6 @@ fn read_list(record: &[u8], block: usize) -> List {
         cut,
         bits,
         tail,
-        rubbish,
         code_sizes,
     }
 }

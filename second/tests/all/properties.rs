@@ -4,7 +4,7 @@ use crate::model;
 use crate::tools::*;
 use second::random::Random;
 use second::{ask, close, count, lend, look, part, test, write, Verdict};
-use std::collections::BTreeSet;
+use std::collections::{BTreeMap, BTreeSet};
 
 /// Lists with their sizes, before they are packed.
 struct Lists {
@@ -49,18 +49,36 @@ fn some_lists(random: &mut Random) -> Lists {
     Lists { u, block, lists }
 }
 
-/// Packs lists, at times with bits set behind the cut.
-fn pack(random: &mut Random, given: &Lists) -> Vec<Vec<u8>> {
-    let mut records = Vec::new();
-    for (cut, slots) in &given.lists {
-        let mut record = written(given.u, given.block, *cut, slots);
-        if cut % 8 != 0 && random.below(2) == 0 {
-            let last = 12 + *cut as usize / 8;
-            record[last] |= random.byte() & (0xFF >> (cut % 8));
+fn pack(given: &Lists) -> Vec<Vec<u8>> {
+    let lists = given.lists.iter();
+    lists
+        .map(|(cut, slots)| written(given.u, given.block, *cut, slots))
+        .collect()
+}
+
+/// Sets one or more bits behind the cut in about half of the lists that have
+/// such bits, and gives the first list where this was done.
+fn soil(random: &mut Random, given: &Lists, records: &mut [Vec<u8>]) -> Option<u32> {
+    let mut first = None;
+    for (i, (cut, _)) in given.lists.iter().enumerate() {
+        let bits = random.byte() & (0xFF >> (cut % 8));
+        if cut % 8 != 0 && bits != 0 && random.below(2) == 0 {
+            records[i][12 + *cut as usize / 8] |= bits;
+            first = first.or(Some(i as u32));
         }
-        records.push(record);
     }
-    records
+    first
+}
+
+/// Where records laid one after the other begin, and where the last one ends.
+fn laid(records: &[Vec<u8>]) -> (Vec<u32>, u32) {
+    let mut starts = Vec::new();
+    let mut total = 0;
+    for record in records {
+        starts.push(total);
+        total += record.len() as u32;
+    }
+    (starts, total)
 }
 
 fn intersection(given: &Lists, names: &[u32]) -> Vec<u32> {
@@ -85,7 +103,7 @@ fn written_lists_read_back() {
     let mut random = Random::new(11);
     for _ in 0..600 {
         let given = some_lists(&mut random);
-        let records = pack(&mut random, &given);
+        let records = pack(&given);
         let index = join(given.u, given.block, &records);
         looks_like(&index, 0, 0);
         let modelled = model::read(&index);
@@ -110,34 +128,58 @@ fn written_lists_read_back() {
 }
 
 #[test]
+fn bits_behind_a_cut_are_refused() {
+    let mut random = Random::new(22);
+    let mut places = BTreeSet::new();
+    let mut clean = 0;
+    for _ in 0..800 {
+        let given = some_lists(&mut random);
+        let mut records = pack(&given);
+        let soiled = soil(&mut random, &given, &mut records);
+        let index = join(given.u, given.block, &records);
+        let (number, place) = soiled.map_or((0, 0), |list| (17, list));
+        looks_like(&index, number, place);
+        assert_eq!(examine(&index), soiled.is_none());
+
+        let (starts, total) = laid(&records);
+        let mut room = index.clone();
+        room[total as usize..].fill(DUST);
+        let before = room.clone();
+        let answer = close(&mut room, given.u, given.block, total, &starts);
+        match soiled {
+            Some(list) => {
+                assert_eq!((answer, &room), (wrote(17, list, 0), &before));
+                places.insert(list);
+            }
+            None => {
+                assert_eq!((answer, &room), (wrote(0, 0, index.len() as u32), &index));
+                clean += 1;
+            }
+        }
+    }
+    assert_eq!(places, BTreeSet::from([0, 1, 2, 3, 4]));
+    assert!(clean > 100);
+}
+
+#[test]
 fn closing_gives_what_looking_accepts() {
     let mut random = Random::new(12);
     for _ in 0..400 {
         let given = some_lists(&mut random);
-        let records = pack(&mut random, &given);
+        let records = pack(&given);
         let index = join(given.u, given.block, &records);
-        let mut starts = Vec::new();
-        let mut total = 0;
-        for record in &records {
-            starts.push(total as u32);
-            total += record.len();
-        }
+        let (starts, total) = laid(&records);
         let spare = random.below(9) as usize;
-        let mut room = [records.concat(), vec![DUST; index.len() - total + spare]].concat();
+        let behind = index.len() - total as usize + spare;
+        let mut room = [records.concat(), vec![DUST; behind]].concat();
         let before = room.clone();
 
         let short = room.len() - spare - 1;
-        let answer = close(
-            &mut room[..short],
-            given.u,
-            given.block,
-            total as u32,
-            &starts,
-        );
+        let answer = close(&mut room[..short], given.u, given.block, total, &starts);
         assert_eq!(answer, wrote(12, index.len() as u32, 0));
         assert_eq!(room, before);
 
-        let answer = close(&mut room, given.u, given.block, total as u32, &starts);
+        let answer = close(&mut room, given.u, given.block, total, &starts);
         assert_eq!(answer, wrote(0, 0, index.len() as u32));
         assert_eq!(room[..index.len()], index);
         assert_eq!(room[index.len()..], before[index.len()..]);
@@ -151,7 +193,7 @@ fn both_ways_give_the_intersection() {
     let mut whole = 0;
     for _ in 0..1_500 {
         let given = some_lists(&mut random);
-        let records = pack(&mut random, &given);
+        let records = pack(&given);
         let index = join(given.u, given.block, &records);
         let names = some_names(&mut random, &given);
         let common = intersection(&given, &names);
@@ -195,7 +237,7 @@ fn the_order_of_names_does_not_change_the_slots() {
     let mut random = Random::new(14);
     for _ in 0..300 {
         let given = some_lists(&mut random);
-        let index = join(given.u, given.block, &pack(&mut random, &given));
+        let index = join(given.u, given.block, &pack(&given));
         let mut names = some_names(&mut random, &given);
         let common = intersection(&given, &names);
         for way in [0, 1] {
@@ -220,7 +262,7 @@ fn the_packing_does_not_change_the_slots() {
                 *cut = random.between(0, given.u.min(3_000));
             }
             given.block = random.between(1, 128);
-            let index = join(given.u, given.block, &pack(&mut random, &given));
+            let index = join(given.u, given.block, &pack(&given));
             let mut slots = vec![OLD; 200];
             let answer = ask(&index, 1, &names, &mut slots);
             assert_eq!((answer.number, answer.count as usize), (0, common.len()));
@@ -234,7 +276,7 @@ fn only_the_named_records_matter() {
     let mut random = Random::new(16);
     for _ in 0..200 {
         let given = some_lists(&mut random);
-        let records = pack(&mut random, &given);
+        let records = pack(&given);
         let index = join(given.u, given.block, &records);
         let names = some_names(&mut random, &given);
 
@@ -291,13 +333,8 @@ fn examine(index: &[u8]) -> bool {
     for (i, list) in modelled.lists.iter().enumerate() {
         let name = i as u32;
         assert_eq!(count(index, name), counted(0, 0, list.count() as u32));
-        let mut record = written(modelled.u, modelled.block as u32, list.cut, &list.slots());
-        let lent = lend(index, name);
-        if list.cut % 8 != 0 {
-            let last = 12 + list.cut as usize / 8;
-            record[last] |= lent[last] & (0xFF >> (list.cut % 8));
-        }
-        assert_eq!(lent, record);
+        let record = written(modelled.u, modelled.block as u32, list.cut, &list.slots());
+        assert_eq!(lend(index, name), record);
         records.push(record);
     }
     let mut slots = vec![OLD; 1_000];
@@ -309,6 +346,80 @@ fn examine(index: &[u8]) -> bool {
     assert_eq!(answer.codes, visits[0].codes());
     assert_eq!(index, join(modelled.u, modelled.block as u32, &records));
     true
+}
+
+/// Every record that has such a head, any bits, entries of every slot from 0 to 4
+/// with every offset up to L, and code bytes that are 00, 01 or 80.
+fn small_records(block: u32, head: [u32; 3]) -> Vec<Vec<u8>> {
+    let [cut, n, l] = head;
+    let bits: Vec<Vec<u8>> = (0..=255).map(|byte| vec![byte]).collect();
+    let entries: Vec<Vec<u8>> = (0..=4)
+        .flat_map(|first| (0..=l).map(move |offset| [le(first), le(offset)].concat()))
+        .collect();
+    let codes = [0x00, 0x01, 0x80].map(|byte| vec![byte]);
+    let parts = [
+        (cut.div_ceil(8), &bits[..]),
+        (n.div_ceil(block), &entries[..]),
+        (l, &codes[..]),
+    ];
+    let mut records = vec![head.map(le).concat()];
+    for (times, choices) in parts {
+        for _ in 0..times {
+            records = records
+                .iter()
+                .flat_map(|record| choices.iter().map(|part| [&record[..], part].concat()))
+                .collect();
+        }
+    }
+    records
+}
+
+#[test]
+fn exactly_one_record_for_a_cut_and_slots() {
+    let u = 3;
+    for block in 1..=3 {
+        let mut found = BTreeMap::new();
+        let ends = (0..=u).flat_map(|c| (0..=u - c).map(move |n| (c, n)));
+        let heads = ends.flat_map(|(c, n)| (0..3).map(move |l| [c, n, l]));
+        for record in heads.flat_map(|head| small_records(block, head)) {
+            let index = join(u, block, std::slice::from_ref(&record));
+            if look(&index).number == 0 {
+                let list = model::read(&index).lists.remove(0);
+                assert_eq!(written(u, block, list.cut, &list.slots()), record);
+                // No accepted record before this one had its cut and slots.
+                assert_eq!(found.insert((list.cut, list.slots()), record), None);
+            }
+        }
+        // Four cuts, and eight sets of three slots for each.
+        assert_eq!(found.len(), 32);
+    }
+}
+
+#[test]
+fn other_bytes_are_another_list() {
+    let mut random = Random::new(23);
+    let mut accepted = 0;
+    for _ in 0..1_000 {
+        let given = some_lists(&mut random);
+        let (cut, slots) = &given.lists[0];
+        let record = written(given.u, given.block, *cut, slots);
+        for _ in 0..20 {
+            let mut other = record.clone();
+            let at = random.below(record.len() as u32) as usize;
+            other[at] ^= 1 << random.below(8);
+            let index = join(given.u, given.block, std::slice::from_ref(&other));
+            if look(&index).number == 0 {
+                let list = model::read(&index).lists.remove(0);
+                assert_ne!((list.cut, &list.slots()), (*cut, slots));
+                assert_eq!(
+                    written(given.u, given.block, list.cut, &list.slots()),
+                    other
+                );
+                accepted += 1;
+            }
+        }
+    }
+    assert!(accepted > 1_000);
 }
 
 #[test]
@@ -334,7 +445,7 @@ fn any_byte_of_other_indexes_damaged() {
             *cut = (*cut).min(given.u);
             slots.retain(|&slot| slot <= given.u);
         }
-        let index = join(given.u, given.block, &pack(&mut random, &given));
+        let index = join(given.u, given.block, &pack(&given));
         for at in 0..index.len() {
             for _ in 0..6 {
                 examine(&poke(&index, at, random.byte()));

@@ -255,6 +255,117 @@ fn row_9() {
     faulty(u, 4, &gaps(3, &[(30, 0)], &[1, 0]), 9);
 }
 
+/// A byte whose first `used` bits are set and no others.
+fn front(used: u32) -> u8 {
+    [0x80, 0xC0, 0xE0, 0xF0, 0xF8, 0xFC, 0xFE][used as usize - 1]
+}
+
+#[test]
+fn row_17_each_bit_behind_the_cut() {
+    // The last of one to four bytes has `used` bits up to the cut, set or not.
+    for (whole, used) in (0..4).flat_map(|whole| (1..8).map(move |used| (whole, used))) {
+        let cut = 8 * whole as u32 + used;
+        let all: Vec<u32> = (1..=cut).collect();
+        let list = |last: u8| {
+            let bits = [&vec![0xFF; whole][..], &[last]].concat();
+            raw(cut, 1, 0, &bits, &[(40, 0)], &[])
+        };
+        sound(40, 4, &list(front(used)), &[&all[..], &[40]].concat());
+        sound(40, 4, &list(0), &[&all[..8 * whole], &[40]].concat());
+        for bit in [0x40, 0x20, 0x10, 0x08, 0x04, 0x02, 0x01] {
+            if bit & front(used) == 0 {
+                faulty(40, 4, &list(bit), 17);
+                faulty(40, 4, &list(front(used) | bit), 17);
+            }
+        }
+        faulty(40, 4, &list(0xFF), 17);
+        faulty(40, 4, &list(!front(used)), 17);
+    }
+}
+
+#[test]
+fn row_17_where_no_bit_is_left_over() {
+    sound(32, 4, &raw(0, 0, 0, &[], &[], &[]), &[]);
+    // All bits that follow the bit part belong to an entry.
+    let record = raw(0, 1, 0, &[], &[(0xFFFFF, 0)], &[]);
+    sound(1 << 20, 4, &record, &[0xFFFFF]);
+    let record = raw(8, 1, 0, &[0x01], &[(0xFFFFF, 0)], &[]);
+    sound(1 << 20, 4, &record, &[8, 0xFFFFF]);
+    for bytes in 1..6 {
+        let all: Vec<u32> = (1..=8 * bytes).collect();
+        let bits = vec![0xFF; bytes as usize];
+        let record = raw(8 * bytes, 0, 0, &bits, &[], &[]);
+        sound(8 * bytes, 4, &record, &all);
+        sound(8 * bytes + 1, 4, &record, &all);
+    }
+}
+
+#[test]
+fn row_17_where_the_cut_is_u() {
+    let all: Vec<u32> = (1..=29).collect();
+    let list = |last: u8| raw(29, 0, 0, &[0xFF, 0xFF, 0xFF, last], &[], &[]);
+    sound(29, 4, &list(0xF8), &all);
+    for last in [0xFC, 0xFA, 0xF9, 0xFF] {
+        faulty(29, 4, &list(last), 17);
+    }
+    sound(1, 1, &raw(1, 0, 0, &[0x80], &[], &[]), &[1]);
+    for bits in [0xC0, 0x40, 0x81, 0x01, 0xFF] {
+        faulty(1, 1, &raw(1, 0, 0, &[bits], &[], &[]), 17);
+    }
+}
+
+#[test]
+fn row_17_behind_6() {
+    let bits = [0x80, 0xC0];
+    faulty(32, 4, &raw(9, 0, 0, &bits, &[], &[]), 17);
+    // Code bytes without slots, n too large, a byte more, a byte less.
+    faulty(32, 4, &raw(9, 0, 1, &bits, &[], &[0]), 6);
+    faulty(9, 4, &raw(9, 1, 0, &bits, &[(10, 0)], &[]), 6);
+    faulty(32, 4, &raw(9, 0, 0, &[0x80, 0xC0, 0], &[], &[]), 6);
+    faulty(32, 4, &raw(9, 2, 1, &bits, &[(10, 0)], &[]), 6);
+    // A cut above u has the bits it asks for, and some behind it.
+    faulty(8, 4, &raw(9, 0, 0, &bits, &[], &[]), 6);
+    // One byte of bits where the cut asks for two.
+    faulty(32, 4, &raw(9, 0, 0, &[0xFF], &[], &[]), 6);
+}
+
+#[test]
+fn row_17_before_the_blocks() {
+    for (number, skips, codes) in [
+        (7, (10, 1), &[][..]),
+        (7, (10, WILD), &[]),
+        (8, (10, 0), &[0x00]),
+        (9, (9, 0), &[]),
+        (9, (33, 0), &[]),
+    ] {
+        let list = |last: u8| raw(9, 1, codes.len() as u32, &[0x80, last], &[skips], codes);
+        faulty(32, 4, &list(0x80), number);
+        faulty(32, 4, &list(0x00), number);
+        faulty(32, 4, &list(0xC0), 17);
+        faulty(32, 4, &list(0x01), 17);
+    }
+    let list = |last: u8| raw(9, 1, 0, &[0x80, last], &[(10, 0)], &[]);
+    sound(32, 4, &list(0x80), &[1, 9, 10]);
+    faulty(32, 4, &list(0x81), 17);
+}
+
+#[test]
+fn row_17_in_every_operation() {
+    let dirty = raw(9, 1, 0, &[0x80, 0xA0], &[(12, 0)], &[]);
+    let index = join(32, 4, &[gaps(1, &[(12, 0)], &[]), dirty]);
+    for name in [0, 1, 2, WILD] {
+        assert_eq!(test(&index, name, 12), tested(17, 1, false));
+        assert_eq!(test(&index, name, 0), tested(17, 1, false));
+        assert_eq!(count(&index, name), counted(17, 1, 0));
+        assert_eq!(part(&index, name), lies(17, 1, 0, 0));
+        assert!(lend(&index, name).is_empty());
+        for way in [0, 1, 2] {
+            refuses(&index, way, &[name], 3, 17, 1);
+            refuses(&index, way, &[0, name], 0, 17, 1);
+        }
+    }
+}
+
 #[test]
 fn faults_in_their_order() {
     let u = 32;
@@ -283,8 +394,15 @@ fn lists_in_their_order() {
     let seven = gaps(1, &[(3, 5)], &[]);
     let eight = gaps(1, &[(3, 0)], &[0]);
     let nine = gaps(1, &[(33, 0)], &[]);
+    let dirty = raw(9, 0, 0, &[0x80, 0x40], &[], &[]);
     let good = gaps(1, &[(3, 0)], &[]);
-    let kinds = [(6, &six), (7, &seven), (8, &eight), (9, &nine)];
+    let kinds = [
+        (6, &six),
+        (7, &seven),
+        (8, &eight),
+        (9, &nine),
+        (17, &dirty),
+    ];
     for (first, a) in kinds {
         for (_, b) in kinds {
             let index = join(32, 4, &[good.clone(), a.clone(), good.clone(), b.clone()]);

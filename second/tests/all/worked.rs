@@ -32,8 +32,8 @@ fn each_has_its_own_label() {
         .iter()
         .map(|line| line.split_once(": ").expect("a colon").0)
         .collect();
-    assert_eq!(lines.len(), 97);
-    assert_eq!(labels.len(), 97);
+    assert_eq!(lines.len(), 117);
+    assert_eq!(labels.len(), 117);
 }
 
 #[test]
@@ -141,9 +141,66 @@ fn lists_made_for_one_rule() {
         ("rising counts", "0 0 2 20 6 4 16"),
         // Three different counts: the order of the names changes nothing.
         ("rising counts, names 2 1 0", "0 0 2 20 6 4 16"),
-        ("rubbish behind the cut", "0 0 4 5 1 3 11 13 22"),
-        ("rubbish behind the cut, count list 1", "0 0 8"),
     ]);
+}
+
+#[test]
+fn set_bits_behind_a_cut() {
+    // List 1's cut is 11 and its second bit byte, 3F, has bits 12 to 16 set.
+    says(&[
+        ("rubbish behind the cut, look", "17 1"),
+        ("rubbish behind the cut", "17 1 0 0 0"),
+        ("rubbish behind the cut, count list 1", "17 1 0"),
+        ("rubbish behind the cut, test 3 in list 0", "17 1 0"),
+        ("rubbish behind the cut, part of list 1", "17 1 0 0"),
+        // The first slot of list 0 is 0, which is not above its cut.
+        ("rubbish in list 1, a fault in list 0", "9 0"),
+        ("close rubbish", "17 1 0"),
+    ]);
+}
+
+#[test]
+fn each_bit_behind_a_cut() {
+    // Of the second byte only the top bit is up to the cut, which is 9.
+    says(&[
+        ("cut 9, bits 80 80", "0 0"),
+        ("cut 9, bits 80 C0", "17 0"),
+        ("cut 9, bits 80 A0", "17 0"),
+        ("cut 9, bits 80 90", "17 0"),
+        ("cut 9, bits 80 88", "17 0"),
+        ("cut 9, bits 80 84", "17 0"),
+        ("cut 9, bits 80 82", "17 0"),
+        ("cut 9, bits 80 81", "17 0"),
+        ("cut 8, bits FF", "0 0"),
+        ("cut 0, no bits", "0 0"),
+        ("cut 32, bits FF FF FF FF", "0 0"),
+        // 29 is 24 and five: F8 has five bits from the top, FC six.
+        ("u 29, cut 29, bits FF FF FF F8", "0 0"),
+        ("u 29, cut 29, bits FF FF FF FC", "17 0"),
+        // One code byte without slots.
+        ("6 and 17", "6 0"),
+        // The block's first slot is the cut, which would be 9.
+        ("17 and a faulty block", "17 0"),
+    ]);
+}
+
+#[test]
+fn the_lines_about_rubbish_have_their_places() {
+    let lines = examples::all();
+    let labels: Vec<&str> = lines
+        .iter()
+        .map(|line| line.split_once(": ").expect("a colon").0)
+        .collect();
+    let at = |label: &str| labels.iter().position(|&other| other == label);
+    let follows = |label: &str, next: &str| {
+        assert_eq!(at(next), at(label).map(|i| i + 1), "{label}, {next}");
+    };
+    follows("rising counts, names 2 1 0", "rubbish behind the cut, look");
+    follows("rubbish in list 1, a fault in list 0", "order of faults");
+    follows("L without tail", "cut 9, bits 80 80");
+    follows("17 and a faulty block", "write gap 16384");
+    follows("close B 129", "close rubbish");
+    assert_eq!(labels.last(), Some(&"close rubbish"));
 }
 
 #[test]

@@ -1,7 +1,12 @@
-use Rattle.record.proofs.Spans.{heads}
+use Rattle.record.proofs.Spans.{bits-reach, heads}
 use borrow.Author.Needs.{needs}
 use Rattle.record.proofs.check_record.Statement.{statement}
 use Rattle.record.proofs.check_record.Tie as tie
+use Rattle.record.proofs.ceil.Reads as ceil-reads
+use Rattle.record.proofs.check_tail.Reads as check-tail-reads
+use Rattle.record.proofs.stray.Reads as stray-reads
+use Rattle.words.proofs.rubbish.Reads as rubbish-reads
+use Rattle.words.proofs.u32_at.Reads as u32-at-reads
 
 u32-at-requires : tie.Need-u32-at-requires
 u32-at-requires c κs = search needs
@@ -48,6 +53,21 @@ add-if4 c = search needs
 returns-4 : tie.Need-returns-4
 returns-4 c = search heads
 
+sub-rubbish : tie.Need-sub-rubbish
+sub-rubbish c = search needs
+
+part-rubbish-start : tie.Need-part-rubbish-start
+part-rubbish-start c = search needs
+
+part-rubbish-end : tie.Need-part-rubbish-end
+part-rubbish-end c = search needs
+
+rubbish-requires : tie.Need-rubbish-requires
+rubbish-requires c κs = search bits-reach
+
+returns-5 : tie.Need-returns-5
+returns-5 c = search heads
+
 sub-check-tail : tie.Need-sub-check-tail
 sub-check-tail c = search needs
 
@@ -69,8 +89,8 @@ part-check-tail-end-2 c = search needs
 check-tail-requires : tie.Need-check-tail-requires
 check-tail-requires c κs = search needs
 
-returns-5 : tie.Need-returns-5
-returns-5 c = search heads
+returns-6 : tie.Need-returns-6
+returns-6 c = search heads
 
 pub check-record-spec : {M : Type 1} → statement M
 check-record-spec =
@@ -91,6 +111,11 @@ check-record-spec =
     cast-if4
     add-if4
     returns-4
+    sub-rubbish
+    part-rubbish-start
+    part-rubbish-end
+    rubbish-requires
+    returns-5
     sub-check-tail
     part-check-tail-start
     part-check-tail-end
@@ -98,4 +123,4 @@ check-record-spec =
     part-check-tail-start-2
     part-check-tail-end-2
     check-tail-requires
-    returns-5)
+    returns-6)
