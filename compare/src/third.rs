@@ -21,6 +21,11 @@ pub fn check(case: &Case, outcome: &Outcome) -> Result<Met, String> {
     if outcome.verdict != (0, 0) {
         return Ok(Met::new());
     }
+    by_the_bytes(case, outcome)
+}
+
+/// The same of an accepted call, by a plain reading.
+fn by_the_bytes(case: &Case, outcome: &Outcome) -> Result<Met, String> {
     let index = &case.before.bytes;
     match case.call {
         Call::Look => clean(index),

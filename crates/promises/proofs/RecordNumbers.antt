@@ -20,7 +20,7 @@ use Rattle.laws.proofs.Entries.{entry-is, entry-behind, entry-offset, entries-l
 use Rattle.laws.proofs.Cutting.{blocks-flat, blocks-length}
 use Rattle.laws.proofs.Records.{Fits, Unset, fits-6, pass-6, unfit-6, pass-17, set-17, unset-17}
 use Rattle.meaning.proofs.Rising.{rise-length}
-use Rattle.promises.proofs.RecordRows.{allCodes, Head, HeadRefused, Parts, Rubbish, Tidy, Stained, RecordRefused, RecordSound}
+use Rattle.promises.proofs.RecordRows.{allCodes, Head, HeadRefused, Parts, InParts, Rubbish, Tidy, Stained, RecordRefused, RecordSound}
 use Rattle.promises.proofs.RecordRows.HeadRefused.{cut-above, count-above, codes-alone, sum-wrong}
 use Rattle.promises.proofs.RecordRows.RecordRefused.{six, seventeen, tail}
 use Rattle.promises.proofs.Beyond.{tidy-unset, rubbish-set, unset-tidy, tidy-or}
@@ -155,8 +155,12 @@ module _ {u B : ℕ} {r : List ℕ} {c n L : ℕ} {bits entries codes : List ℕ
   parts-stained : Rubbish c bits → recordFault u B (length r) r ≡ 17
   parts-stained d = parts-chain ∙ set-17 c bits (readTail u B c n L entries codes .fault) (rubbish-set c bits parts-w d)
 
+  -- as a record that has some parts
+  abbrev pub in-parts : InParts u B r
+  in-parts = record { c = c; n = n; L = L; bits = bits; entries = entries; codes = codes; parts = p }
+
   stained-by : Rubbish c bits → Stained u B r
-  stained-by d = record { c = c; n = n; L = L; bits = bits; entries = entries; codes = codes; parts = p; rubbish = d }
+  stained-by d = record { whole = in-parts; rubbish = d }
 
   parts-fault : Tidy c bits → recordFault u B (length r) r ≡ readTail u B c n L entries codes .fault
   parts-fault d = parts-chain ∙ pass-17 c bits (readTail u B c n L entries codes .fault) (tidy-unset c bits parts-w d)
@@ -360,7 +364,7 @@ module _ (u B : ℕ) (r : List ℕ) (all : AllBytes r) (pos : 1 ≤ B) (small : 
   -- what a row refuses the reader refuses, with that row's number
   rows-refused : (f : ℕ) → RecordRefused u B r f → (recordFault u B (length r) r ≡ f) × ¬ (f ≡ 0)
   rows-refused f (six c n L rest h g) = (judged-6 c n L rest h g, omega arith)
-  rows-refused f (seventeen s) = (parts-stained (s .parts) (s .rubbish), omega arith)
+  rows-refused f (seventeen s) = (parts-stained (s .whole .parts) (s .rubbish), omega arith)
   rows-refused f (tail c n L bits es cs p d t) =
       let fit = parts-fitted p in
       let m-is = parts-m p in
@@ -393,7 +397,7 @@ module _ (u B : ℕ) (r : List ℕ) (all : AllBytes r) (pos : 1 ≤ B) (small : 
 
   -- A record is refused with 17 exactly when row 17 applies to it
   pub record-stained : (recordFault u B (length r) r ≡ 17) ↔ Stained u B r
-  record-stained = (λ e. told-stained u B r 17 refl (record-number 17 .0 (e, λ z. omega arith)), λ s. parts-stained (s .parts) (s .rubbish))
+  record-stained = (λ e. told-stained u B r 17 refl (record-number 17 .0 (e, λ z. omega arith)), λ s. parts-stained (s .whole .parts) (s .rubbish))
 
   -- An accepted record: its parts, its bits, and its blocks as they are laid
   pub record Accepted : Type 0 where

@@ -148,6 +148,16 @@ pub record Parts (u B : ℕ) (r : List ℕ) (c n L : ℕ) (bits entries codes : 
   -- L code bytes
   pub codes-long : length codes ≡ L
 
+-- That is: it has some such parts
+pub record InParts (u B : ℕ) (r : List ℕ) : Type 0 where
+  pub c : ℕ
+  pub n : ℕ
+  pub L : ℕ
+  pub bits : List ℕ
+  pub entries : List ℕ
+  pub codes : List ℕ
+  pub parts : Parts u B r c n L bits entries codes
+
 -- Row 17, of the bytes of bits of a record with the cut c: the cut ends inside a byte, and beyond it, in that byte, a bit is set
 pub record Rubbish (c : ℕ) (bits : List ℕ) : Type 0 where
   pub inside : ¬ (c % 8 ≡ 0)
@@ -168,14 +178,8 @@ pub record Tidy (c : ℕ) (bits : List ℕ) : Type 0 where
 
 -- Row 17 applies to a record: row 6 does not, so that it has the parts that its head says, and its bits have rubbish
 pub record Stained (u B : ℕ) (r : List ℕ) : Type 0 where
-  pub c : ℕ
-  pub n : ℕ
-  pub L : ℕ
-  pub bits : List ℕ
-  pub entries : List ℕ
-  pub codes : List ℕ
-  pub parts : Parts u B r c n L bits entries codes
-  pub rubbish : Rubbish c bits
+  pub whole : InParts u B r
+  pub rubbish : Rubbish (whole .c) (whole .bits)
 
 -- ROWS 6 TO 9 AND 17, of a record of at least 12 bytes: the number f is the one given
 pub data RecordRefused (u B : ℕ) (r : List ℕ) : ℕ → Type 0 where
@@ -251,14 +255,8 @@ pub record Among (B n : ℕ) (entries codes : List ℕ) (x : ℕ) : Type 0 where
 
 -- The slot x stands in the tail of a record
 pub record InTail (u B : ℕ) (r : List ℕ) (x : ℕ) : Type 0 where
-  pub c : ℕ
-  pub n : ℕ
-  pub L : ℕ
-  pub bits : List ℕ
-  pub entries : List ℕ
-  pub codes : List ℕ
-  pub parts : Parts u B r c n L bits entries codes
-  pub among : Among B n entries codes x
+  pub whole : InParts u B r
+  pub among : Among B (whole .n) (whole .entries) (whole .codes) x
 
 -- The slot x stands in a record: up to the cut by its bit, which is what the bytes of bits are written from; above it in the tail
 pub data Holds (u B : ℕ) (r : List ℕ) (x : ℕ) : Type 0 where

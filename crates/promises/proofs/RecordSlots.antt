@@ -28,7 +28,7 @@ use Rattle.meaning.proofs.Sound.{contents-rise, tail-rise, has-tail, has-bit}
 use Rattle.promises.proofs.RecordRows.{allCodes, Parts, codesFor, Small, ledTo, Among, InTail, Holds}
 use Rattle.promises.proofs.RecordRows.Holds.{by-bit, in-tail}
 use Rattle.promises.proofs.WrittenBlocks.{Cut, Laid}
-use Rattle.promises.proofs.RecordNumbers.{Accepted, accepted-is, parts-cut, parts-bits, parts-laid}
+use Rattle.promises.proofs.RecordNumbers.{Accepted, accepted-is, parts-cut, parts-bits, in-parts, parts-laid}
 
 -- Blocks around one of them
 module _ (b : List ℕ) (bl₂ : List (List ℕ)) where
@@ -259,22 +259,14 @@ module _ (u B : ℕ) (r : List ℕ) (all : AllBytes r) (pos : 1 ≤ B) (few : u 
       let p = whole .parts in
       let w = p .head .code-word in
       let size = p .codes-long in
-      record {
-        c = _;
-        n = _;
-        L = _;
-        bits = _;
-        entries = _;
-        codes = _;
-        parts = p;
-        among = held-among u B _ _ _ _ few (omega arith) (tailOf u B r .blocks) x (whole .laid) h;
-      }
+      record { whole = in-parts p; among = held-among u B _ _ _ _ few (omega arith) (tailOf u B r .blocks) x (whole .laid) h }
 
   in-tail-has : (x : ℕ) → InTail u B r x → has x tailSlots ≡ true
   in-tail-has x t =
-      let w = t .parts .head .code-word in
-      let size = t .parts .codes-long in
-      among-held u B (t .n) (t .c) (t .entries) (t .codes) few (omega arith) (tailOf u B r .blocks) x (parts-laid (t .parts) all ok) (t .among)
+      let p = t .whole in
+      let w = p .parts .head .code-word in
+      let size = p .parts .codes-long in
+      among-held u B (p .n) (p .c) (p .entries) (p .codes) few (omega arith) (tailOf u B r .blocks) x (parts-laid (p .parts) all ok) (t .among)
 
   rises-over : (x : ℕ) → has x tailSlots ≡ true → cutOf r < x
   rises-over x h = go (decLe x (cutOf r))

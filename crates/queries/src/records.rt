@@ -134,13 +134,14 @@ fn cuts() {
 
 // An unused bit beside another fault of the record: 6 is judged before it, the blocks behind it.
 fn beside() {
-    look_at(b"6 and 17", 32, 2, &[9, 0, 1], b"\x80\xC0", &[], b"\x00");
+    let bits = b"\x80\xC0";
+    look_at(b"6 and 17", 32, 2, &[9, 0, 1], bits, &[], b"\x00");
     look_at(
         b"17 and a faulty block",
         32,
         2,
         &[9, 1, 0],
-        b"\x80\xC0",
+        bits,
         &[9, 0],
         b"",
     );
