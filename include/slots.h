@@ -85,9 +85,22 @@ uint32_t slots_look(const uint8_t *index, size_t index_len, uint64_t *out, size_
  * also where the answer would fit). Names may come in any order, and one more than once.
  * Accepted: the first `count` places of `slots` hold exactly the slots that every list named holds, lowest first, each once; every place behind
  * them, to the end of the slice, holds 0. `looks` is how often a search compared a skip entry with the slot that it sought, `codes` how
- * many codes were read in the blocks that searches led to. Both are summed over every name but one, that of the smallest list (of several smallest,
- * or where it is named again: the one named first), and both are exact. */
-enum slots_ask_field { SLOTS_ASK_NUMBER, SLOTS_ASK_PLACE, SLOTS_ASK_COUNT, SLOTS_ASK_LOOKS, SLOTS_ASK_CODES, SLOTS_ASK_FIELDS };
+ * many codes were read in the blocks that searches led to. Both are exact, and both are totals.
+ * Which list cost what: SLOTS_ASK_LOOKS_AT + i and SLOTS_ASK_CODES_AT + i are the fields of the name at position i of the question, as it was asked, with
+ * the looks and the codes of that position. A list that is named twice has two positions, each with its own cost. The smallest list (of several
+ * smallest, or where it is named again: the one named first) is the starting list, whose slots are sought in the others: both fields of its position
+ * are 0. So are those of positions behind the last name, and all of them where the way is plain or the question is refused. The two totals are the sums of
+ * these fields. An `out` of 5 receives all that stands before them. */
+enum slots_ask_field {
+    SLOTS_ASK_NUMBER,
+    SLOTS_ASK_PLACE,
+    SLOTS_ASK_COUNT,
+    SLOTS_ASK_LOOKS,
+    SLOTS_ASK_CODES,
+    SLOTS_ASK_LOOKS_AT,                                         /* the first of 16, one for each position */
+    SLOTS_ASK_CODES_AT = SLOTS_ASK_LOOKS_AT + SLOTS_MOST_NAMES, /* likewise */
+    SLOTS_ASK_FIELDS = SLOTS_ASK_CODES_AT + SLOTS_MOST_NAMES    /* 37 */
+};
 uint32_t slots_ask(const uint8_t *index, size_t index_len, uint32_t way, const uint32_t *names, size_t names_len,
                    uint32_t *slots, size_t slots_len, uint64_t *out, size_t out_len);
 

@@ -54,6 +54,83 @@ static void answers(const uint8_t *index, size_t size) {
     IS(out[SLOTS_LEND_LENGTH], 24);
 }
 
+/* Asks for `names`, and holds the fields of every position, and the two totals, to what is expected of the first three positions; behind them is 0. */
+static void costs(const uint8_t *index, size_t size, uint32_t way, const uint32_t *names, size_t many, const uint64_t *looks, const uint64_t *codes) {
+    uint32_t slots[15];
+    uint64_t out[SLOTS_ASK_FIELDS];
+    memset(out, 0xAA, sizeof out);
+    IS(slots_ask(index, size, way, names, many, slots, 15, out, SLOTS_ASK_FIELDS), SLOTS_ACCEPTED);
+    IS(out[SLOTS_ASK_LOOKS], looks[0] + looks[1] + looks[2]);
+    IS(out[SLOTS_ASK_CODES], codes[0] + codes[1] + codes[2]);
+    for (int i = 0; i < SLOTS_MOST_NAMES; i++) {
+        IS(out[SLOTS_ASK_LOOKS_AT + i], i < 3 ? looks[i] : 0);
+        IS(out[SLOTS_ASK_CODES_AT + i], i < 3 ? codes[i] : 0);
+    }
+}
+
+/* Which list cost what. List 1, the smaller, is the starting list where it is named. Its seven slots are tried in list 0 at 9 looks and 14 codes, as
+ * docs/FORMAT.md tells. Where list 0 is named again, 5 12 16 26 30 are left to be tried, at 2 2 1 2 1 looks and 2 1 3 3 2 codes. In itself list 1 costs
+ * the look at its one entry that finds 26, and 0, 1 and 2 codes for 26, 30 and 31. */
+static void which_list_cost_what(const uint8_t *index, size_t size) {
+    static const struct {
+        size_t many;
+        uint32_t names[3];
+        uint64_t looks[3], codes[3];
+    } asked[] = {
+        {2, {0, 1}, {9, 0}, {14, 0}},
+        {2, {1, 0}, {0, 9}, {0, 14}},
+        {3, {1, 0, 0}, {0, 9, 8}, {0, 14, 11}},
+        {3, {0, 1, 0}, {9, 0, 8}, {14, 0, 11}},
+        {3, {1, 0, 1}, {0, 9, 1}, {0, 14, 3}},
+        {2, {1, 1}, {0, 1}, {0, 3}},
+        {1, {0}, {0}, {0}},
+    };
+    const uint64_t nothing[3] = {0, 0, 0};
+    for (size_t i = 0; i < sizeof asked / sizeof asked[0]; i++) {
+        costs(index, size, SLOTS_BY_SKIPS, asked[i].names, asked[i].many, asked[i].looks, asked[i].codes);
+        costs(index, size, SLOTS_PLAIN, asked[i].names, asked[i].many, nothing, nothing);
+    }
+}
+
+/* Lists 0 1 0 1 .. 0 1, which fill all positions: at position 1 stands the starting list, and the first to be tried in list 0 are seven slots. */
+static void sixteen_names(const uint8_t *index, size_t size) {
+    const uint32_t names[SLOTS_MOST_NAMES] = {0, 1, 0, 1, 0, 1, 0, 1, 0, 1, 0, 1, 0, 1, 0, 1};
+    uint32_t slots[7];
+    uint64_t out[SLOTS_ASK_FIELDS];
+    IS(slots_ask(index, size, SLOTS_BY_SKIPS, names, SLOTS_MOST_NAMES, slots, 7, out, SLOTS_ASK_FIELDS), SLOTS_ACCEPTED);
+    IS(out[SLOTS_ASK_LOOKS], 9 + 7 * 8 + 7 * 1);
+    IS(out[SLOTS_ASK_CODES], 14 + 7 * 11 + 7 * 3);
+    IS(out[SLOTS_ASK_LOOKS_AT], 9);
+    IS(out[SLOTS_ASK_CODES_AT], 14);
+    IS(out[SLOTS_ASK_LOOKS_AT + 1], 0);
+    IS(out[SLOTS_ASK_CODES_AT + 1], 0);
+    for (int i = 2; i < SLOTS_MOST_NAMES; i++) {
+        IS(out[SLOTS_ASK_LOOKS_AT + i], names[i] == 0 ? 8 : 1);
+        IS(out[SLOTS_ASK_CODES_AT + i], names[i] == 0 ? 11 : 3);
+    }
+}
+
+/* Asks for what is refused: behind number and place all fields are 0. */
+static void zeros(const uint8_t *index, size_t size, uint32_t way, const uint32_t *names, size_t many, size_t room, uint32_t number, uint64_t place) {
+    uint32_t slots[7];
+    uint64_t out[SLOTS_ASK_FIELDS];
+    memset(out, 0xAA, sizeof out);
+    IS(slots_ask(index, size, way, names, many, slots, room, out, SLOTS_ASK_FIELDS), number);
+    IS(out[SLOTS_ASK_NUMBER], number);
+    IS(out[SLOTS_ASK_PLACE], place);
+    for (int i = SLOTS_ASK_COUNT; i < SLOTS_ASK_FIELDS; i++) IS(out[i], 0);
+}
+
+static void refusals_cost_nothing(const uint8_t *index, size_t size) {
+    const uint32_t third_is_none[] = {1, 0, 2};
+    zeros(index, size - 1, SLOTS_BY_SKIPS, both, 2, 7, SLOTS_BAD_TAG, 0);
+    zeros(index, size, 2, both, 2, 7, SLOTS_BAD_WAY, 0);
+    zeros(index, size, SLOTS_BY_SKIPS, both, 0, 7, SLOTS_BAD_NAMES, 0);
+    zeros(index, size, SLOTS_BY_SKIPS, third_is_none, 3, 7, SLOTS_NO_LIST, 2);
+    zeros(index, size, SLOTS_BY_SKIPS, both, 2, 6, SLOTS_NO_ROOM, 7);
+    zeros(index, size, SLOTS_PLAIN, both, 2, 6, SLOTS_NO_ROOM, 7);
+}
+
 static void refusals(uint8_t *index, size_t size) {
     uint32_t slots[6] = {9, 9, 9, 9, 9, 9};
     uint64_t out[SLOTS_ASK_FIELDS];
@@ -115,15 +192,35 @@ static void edges(const uint8_t *index, size_t size) {
     IS(slots_close(NULL, 0, 32, 4, 0, NULL, 0, NULL, 0), SLOTS_BAD_RANGE);
 }
 
+/* An `out` of any length takes the fields that fit, those of the positions too, and what stands behind stays. */
+static void shorter_out(const uint8_t *index, size_t size, size_t length) {
+    const uint32_t names[] = {1, 0, 0};
+    const uint64_t whole[SLOTS_ASK_FIELDS] = {0, 0, 5, 17, 25, [SLOTS_ASK_LOOKS_AT + 1] = 9, 8, [SLOTS_ASK_CODES_AT + 1] = 14, 11};
+    uint32_t slots[7];
+    uint64_t out[SLOTS_ASK_FIELDS + 1];
+    memset(out, 0xAA, sizeof out);
+    IS(slots_ask(index, size, SLOTS_BY_SKIPS, names, 3, slots, 7, out, length), SLOTS_ACCEPTED);
+    for (size_t i = 0; i <= SLOTS_ASK_FIELDS; i++) IS(out[i], i < length && i < SLOTS_ASK_FIELDS ? whole[i] : 0xAAAAAAAAAAAAAAAA);
+}
+
 int main(void) {
     uint8_t room[120];
     memset(room, 0xAA, sizeof room);
     size_t size = make(room, sizeof room);
     for (size_t i = size; i < sizeof room; i++) IS(room[i], 0xAA);
     answers(room, size);
+    which_list_cost_what(room, size);
+    sixteen_names(room, size);
+    refusals_cost_nothing(room, size);
     refusals(room, size);
     bits_beyond_the_cut(room, size);
     edges(room, size);
+    shorter_out(room, size, 0);
+    shorter_out(room, size, 5);  /* as many as there are before the positions */
+    shorter_out(room, size, 20); /* all but one of the looks, and no codes */
+    shorter_out(room, size, 23);
+    shorter_out(room, size, SLOTS_ASK_FIELDS);
+    shorter_out(room, size, SLOTS_ASK_FIELDS + 1);
     IS(strcmp(slots_reason(SLOTS_BAD_CUT), "the cut is above u"), 0);
     IS(strcmp(slots_reason(SLOTS_BAD_BITS), "a bit beyond the cut is set"), 0);
     IS(strcmp(slots_reason(SLOTS_BAD_BITS + 1), "a number that this header does not know"), 0);

@@ -39,8 +39,8 @@ def show(given: argparse.Namespace) -> int:
 def ask(given: argparse.Namespace) -> int:
     with _index(given.file) as index:
         answer = slots.ask(index, given.way, given.names)
-    cost = _many(answer.looks, "look"), _many(answer.codes, "code")
-    _print([", ".join((_many(len(answer.slots), "slot"), *cost)), *map(str, answer.slots)])
+    costs = _costs(index, given.names, answer) if given.way is slots.Way.BY_SKIPS else []  # plainly nothing is sought, and no list has a cost
+    _print([f"{_many(len(answer.slots), 'slot')}, {_cost(answer.looks, answer.codes)}", *costs, *map(str, answer.slots)])
     return 0
 
 
@@ -117,6 +117,19 @@ def _table(lists: List[reading.List]) -> Iterator[str]:
         yield "  ".join(cell.rjust(width) for cell, width in zip(row, widths))
 
 
+def _costs(index: bytes, names: List[int], answer: slots.Answer) -> Iterator[str]:
+    """What each list named cost, in the order named, with a mark at the starting list."""
+    counts = [each.count for each in reading.read(index).lists]
+    starting = min(range(len(names)), key=lambda at: counts[names[at]])  # of several smallest the one named first
+    for at, (name, looks, codes) in enumerate(zip(names, answer.looks_at, answer.codes_at)):
+        mark = f" (the starting list: {_many(counts[name], 'candidate')})" if at == starting else ""
+        yield f"list {name}: {_cost(looks, codes)}{mark}"
+
+
+def _cost(looks: int, codes: int) -> str:
+    return f"{_many(looks, 'look')}, {_many(codes, 'code')}"
+
+
 def _many(count: int, what: str) -> str:
     return f"{count} {what}" if count == 1 else f"{count} {what}s"
 
@@ -154,6 +167,13 @@ example:
     (ask, "ask which slots stand in all lists named", """\
 Prints how many slots there are and what the search cost, and then one slot to a
 line. The names are the numbers of the lists, 1 to 16 of them, counted from 0.
+
+By skips, a line for each name stands before the slots: how often a skip entry of
+that list was compared with the slot sought (looks), and how many of its codes were
+read. The list with the fewest slots (of several, the one named first) is the
+starting list. Its slots are the candidates, which are sought in the other lists,
+one list after the other; what one of them lacks is sought no more. The starting
+list itself costs nothing. The plain way does not search, and no list has a cost.
 
 example:
   python3 bindings/python ask crates/rack/data/rack.idx skips 0 1""", [

@@ -40,7 +40,7 @@ import pathlib
 import platform
 from array import array
 from dataclasses import dataclass
-from typing import TYPE_CHECKING, Callable, Dict, Iterable, Iterator, List, Optional, Union
+from typing import TYPE_CHECKING, Callable, Dict, Iterable, Iterator, List, Optional, Tuple, Union
 
 __all__ = [
     "Answer", "Bytes", "Counted", "Lent", "NoLibrary", "Refusal", "Refused", "Room", "Tested", "Way", "Written",
@@ -64,6 +64,8 @@ MOST_LISTS = 4_096        # k
 MOST_NAMES = 16           # in one question
 MOST_RECORD = 11_665_420  # bytes of a record that write makes
 
+_ASK_FIELDS = 5 + 2 * MOST_NAMES  # the last are the looks of each position, and then the codes of each
+_UNWRITTEN = 2**64 - 1  # what a field holds before a call; no answer has it
 _MOST_NUMBER = 2**32 - 1
 _WORD = "I" if array("I").itemsize == 4 else "L"  # the code of the array type that has four bytes to a number
 
@@ -150,12 +152,16 @@ class Refused(Exception):
 
 
 class NoLibrary(OSError):
-    """The compiled library is missing, is for another machine, or lacks a function."""
+    """The compiled library is missing, is for another machine, lacks a function, or is older than this module."""
 
 
 @dataclass(frozen=True)
 class Answer:
     """What `ask` found: the slots that every list named holds, lowest first, each once; and what the search cost (0 and 0 the plain way).
+
+    looks_at and codes_at tell which list cost what: the looks and the codes of each name, at its position in the question. A list that is named
+    twice has two of each, each with its own cost. The starting list has 0 and 0: the smallest (of several smallest, or where it is named
+    again: the one named first), whose slots are sought in the others. looks and codes are the totals.
 
     True where there is any slot. Compare `slots` with a list, not the answer.
     """
@@ -163,6 +169,8 @@ class Answer:
     slots: List[int]
     looks: int
     codes: int
+    looks_at: Tuple[int, ...]
+    codes_at: Tuple[int, ...]
 
     def __bool__(self) -> bool:
         return bool(self.slots)
@@ -352,9 +360,9 @@ def index_of(u: int, block: int, records: Iterable[Bytes]) -> bytes:
 
 def _asked(held: bytes, way: int, names: ctypes.Array[ctypes.c_uint32], room: int) -> Answer:
     places = (ctypes.c_uint32 * room)()
-    answer = _accepted(_call("slots_ask", 5, held, len(held), way, names, len(names), places, room))
-    _, _, found, looks, codes = answer
-    return Answer(places[:found], looks, codes)
+    answer = _accepted(_call("slots_ask", _ASK_FIELDS, held, len(held), way, names, len(names), places, room))
+    _, _, found, looks, codes, *at = answer
+    return Answer(places[:found], looks, codes, tuple(at[:MOST_NAMES][:len(names)]), tuple(at[MOST_NAMES:][:len(names)]))
 
 
 def _written(u: int, block: int, cut: int, slots: ctypes.Array[ctypes.c_uint32], room: Room) -> Written:
@@ -448,9 +456,12 @@ def _words(what: str, values: List[int]) -> _Array:
 
 def _call(function: str, fields: int, *given: object) -> List[int]:
     """Calls the function and gives all fields of its answer, refused or not."""
-    out = (ctypes.c_uint64 * fields)()
+    out = (ctypes.c_uint64 * fields)(*[_UNWRITTEN] * fields)
     getattr(_library(), function)(*given, out, fields)
-    return list(out)
+    answer = list(out)
+    if _UNWRITTEN in answer:  # without this, what an older library does not tell would seem to be a cost of 0
+        raise NoLibrary(f"the library is older than this module ({function} leaves out fields): run ./build-lib, or name another folder in SLOTS_LIB")
+    return answer
 
 
 def _accepted(answer: List[int]) -> List[int]:

@@ -1,7 +1,9 @@
 //! One call of one function, and what the second implementation makes of it.
 
+use crate::make::one_of;
 use second::random::Random;
 use std::fmt::Write;
+use std::ops::Range;
 
 /// A function with its plain arguments.
 #[derive(Clone, Copy, Debug, PartialEq)]
@@ -14,6 +16,10 @@ pub enum Call {
     Write { u: u32, block: u32, cut: u32 },
     Close { u: u32, block: u32, total: u32 },
 }
+
+/// Where in a question's answer the looks of each position stand, and the codes.
+pub const LOOKS_AT: Range<usize> = 5..21;
+pub const CODES_AT: Range<usize> = 21..37;
 
 pub const CALLS: [&str; 7] = ["look", "ask", "test", "count", "lend", "write", "close"];
 
@@ -47,7 +53,7 @@ impl Call {
     pub fn fields(self) -> u32 {
         match self {
             Call::Look | Call::Lend { .. } => 2,
-            Call::Ask { .. } => 5,
+            Call::Ask { .. } => CODES_AT.end as u32,
             _ => 3,
         }
     }
@@ -139,12 +145,28 @@ impl Case {
     /// also shorter, empty and longer.
     pub fn out(mut self, random: &mut Random) -> Case {
         let fields = self.call.fields();
-        let many = match random.below(3) {
+        let many = match random.below(6) {
             0 => random.between(0, fields + 3),
+            1 => self.some_end(random),
             _ => fields,
         };
         self.before.out = (0..many).map(|_| random.bits()).collect();
         self
+    }
+
+    /// A short slice. That of a question ends in one of three parts of the
+    /// answer: in what comes before the costs, or at the place of one of the
+    /// names in one of the two costs.
+    fn some_end(&self, random: &mut Random) -> u32 {
+        let names = self.before.given.len().min(LOOKS_AT.len()) as u32;
+        let (looks, codes) = (LOOKS_AT.start as u32, CODES_AT.start as u32);
+        match self.call {
+            Call::Ask { .. } => {
+                let (from, many) = one_of(random, &[(0, looks), (looks, names), (codes, names)]);
+                random.between(from, from + many)
+            }
+            _ => random.between(0, self.call.fields()),
+        }
     }
 
     /// With a slice for all of the answer's numbers and two elements behind them.
@@ -180,7 +202,10 @@ impl Case {
             }
             Call::Ask { way } => {
                 let a = second::ask(index, way, given, &mut after.slots);
-                answer(a.number, a.place, &[u64::from(a.count), a.looks, a.codes])
+                let mut more = vec![u64::from(a.count), a.looks, a.codes];
+                more.extend(a.looks_at);
+                more.extend(a.codes_at);
+                answer(a.number, a.place, &more)
             }
             Call::Test { name, slot } => {
                 let a = second::test(index, name, slot);

@@ -1,13 +1,13 @@
 //! Answers falsified on purpose: each must be noticed.
 
-use crate::case::{Call, Case, Outcome};
+use crate::case::{Call, Case, Outcome, CODES_AT, LOOKS_AT};
 use crate::make::one_of;
 use crate::wire::{Frame, Part};
 use second::random::Random;
 use std::ops::Range;
 
 /// What a lie alters.
-pub const LIES: [&str; 9] = [
+pub const LIES: [&str; 10] = [
     "the number returned",
     "a number of the answer",
     "a slot of the answer",
@@ -17,6 +17,7 @@ pub const LIES: [&str; 9] = [
     "a guard before",
     "a guard behind",
     "the last zero behind the slots",
+    "the cost of a position",
 ];
 
 /// An answer with one byte changed, where the case has such a byte.
@@ -39,10 +40,11 @@ pub fn told(
         5 => part(Part::Within, 1),
         6 => part(Part::Before, guarded),
         7 => part(Part::Behind, guarded),
-        _ => {
+        8 => {
             let slots = part(Part::Within, 2);
             slots.end.saturating_sub(4).max(slots.start)..slots.end
         }
+        _ => costs(case, part(Part::Within, 3)),
     };
     if range.is_empty() {
         return None;
@@ -51,6 +53,17 @@ pub fn told(
     let at = range.start + random.below(range.len() as u32) as usize;
     lie[at] ^= one_of(random, &[1, 16, 128, 255]);
     Some(lie)
+}
+
+/// The places of a question's costs, as far as there are any in the slice.
+fn costs(case: &Case, out: Range<usize>) -> Range<usize> {
+    match case.call {
+        Call::Ask { .. } => {
+            let from = out.start + 8 * LOOKS_AT.start;
+            from..out.end.min(out.start + 8 * CODES_AT.end)
+        }
+        _ => 0..0,
+    }
 }
 
 /// The byte behind a written record or a closed index.

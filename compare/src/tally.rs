@@ -1,11 +1,12 @@
 //! What a run has met, and whether that is enough.
 
-use crate::case::{Call, Case, Outcome, Verdict, CALLS};
+use crate::case::{Call, Case, Outcome, Verdict, CALLS, CODES_AT, LOOKS_AT};
 use crate::lie::LIES;
 use crate::read;
-use crate::third::Met;
+use crate::third::{Met, PLAIN_ZEROS, REFUSED_ZEROS};
 use crate::trace::MET;
 use std::collections::BTreeMap;
+use std::ops::Range;
 
 /// Every number of refusal must be met so often.
 const ENOUGH: u64 = 50;
@@ -14,6 +15,17 @@ const EXACT: &str = "room exact";
 const ONE_LESS: &str = "refused: room one less than needed";
 const SIXTEEN: &str = "sixteen names";
 const EMPTY: &str = "an empty answer in some room";
+
+/// Where the slice for the numbers of a question that costs something ends.
+const ENDS: [&str; 7] = [
+    "out: no place",
+    "out: fewer than five places",
+    "out: the first five alone",
+    "out ends inside looks_at, between two costs",
+    "out ends inside codes_at, between two costs",
+    "out: 37 places",
+    "out: more than 37",
+];
 
 /// 17, by the function that gives it: all but writing may.
 const BY_17: [Option<&str>; 7] = [
@@ -213,6 +225,7 @@ impl Tally {
         self.count_place(case, number, place);
         if let Call::Ask { .. } = case.call {
             self.count_room(case, outcome);
+            self.count_end(case.before.out.len(), &outcome.numbers);
         }
     }
 
@@ -268,6 +281,27 @@ impl Tally {
         if outcome.numbers[2] == 0 && room > 0 {
             self.meet(EMPTY);
         }
+    }
+
+    /// Where the slice for the numbers ends. Ends at a place are counted where
+    /// a cost was told before it and one had no place behind it.
+    fn count_end(&mut self, end: usize, numbers: &[u64]) {
+        let costs = |from: usize, to: usize| numbers[from..to].iter().any(|&cost| cost > 0);
+        let parts = |part: &Range<usize>| costs(part.start, end) && costs(end, part.end);
+        if !costs(LOOKS_AT.start, CODES_AT.end) {
+            return;
+        }
+        let which = match end {
+            0 => 0,
+            1..=4 => 1,
+            5 => 2,
+            6..=20 if parts(&LOOKS_AT) => 3,
+            22..=36 if parts(&CODES_AT) => 4,
+            37 => 5,
+            38.. => 6,
+            _ => return,
+        };
+        self.meet(ENDS[which]);
     }
 
     /// The tables.
@@ -351,5 +385,6 @@ fn required() -> impl Iterator<Item = &'static str> {
     let by_17 = BY_17.into_iter().flatten();
     let closed = [CLOSED_EARLIER, CLOSED_LATER];
     let spots = SPOTS.into_iter().chain(by_17).chain(closed);
-    MET.into_iter().chain(rooms).chain(spots)
+    let costs = [REFUSED_ZEROS, PLAIN_ZEROS].into_iter().chain(ENDS);
+    MET.into_iter().chain(costs).chain(rooms).chain(spots)
 }

@@ -1,15 +1,18 @@
 //! What is known of an answer without either implementation: the refusal that
 //! a case was made for, and for accepted calls a plain reading of the bytes.
 
-use crate::case::{Call, Case, Outcome};
+use crate::case::{Call, Case, Outcome, CODES_AT, LOOKS_AT};
 use crate::pack::{ending, List};
 use crate::read::{self, Seen};
-use crate::trace::{common, met_by_list, met_by_names, walk};
+use crate::trace::{common, met_by_costs, met_by_list, met_by_names, walk};
 use crate::trace::{WRITTEN_CUT, WRITTEN_THREE, WRITTEN_TWO};
 use std::collections::{BTreeMap, BTreeSet};
 
 /// What a case has met on its way.
 pub type Met = BTreeSet<&'static str>;
+
+pub const REFUSED_ZEROS: &str = "refused: all 32 places of the costs made 0";
+pub const PLAIN_ZEROS: &str = "plain: all 32 made 0, where skips would cost";
 
 /// Holds an answer against what is known of it, in words where they differ.
 pub fn check(case: &Case, outcome: &Outcome) -> Result<Met, String> {
@@ -19,9 +22,33 @@ pub fn check(case: &Case, outcome: &Outcome) -> Result<Met, String> {
         }
     }
     if outcome.verdict != (0, 0) {
-        return Ok(Met::new());
+        return refused(case, outcome);
     }
     by_the_bytes(case, outcome)
+}
+
+/// A refusal tells its number and place and zeros, a part not lent only zeros.
+fn refused(case: &Case, outcome: &Outcome) -> Result<Met, String> {
+    let told = match case.call {
+        Call::Lend { .. } => 0,
+        _ => 2,
+    };
+    if outcome.numbers[told..].iter().any(|&number| number != 0) {
+        return Err("refused, and not all else is 0".to_string());
+    }
+    Ok(zeros(case, REFUSED_ZEROS))
+}
+
+/// Meets the event where the answer has places for the costs of several names.
+/// None of them held a zero before, so the zeros were written.
+fn zeros(case: &Case, event: &'static str) -> Met {
+    let asked = matches!(case.call, Call::Ask { .. }) && case.before.given.len() > 1;
+    let places = case.before.out.get(LOOKS_AT.start..CODES_AT.end);
+    if asked && places.is_some_and(|places| !places.contains(&0)) {
+        Met::from([event])
+    } else {
+        Met::new()
+    }
 }
 
 /// The same of an accepted call, by a plain reading.
@@ -134,18 +161,45 @@ fn question(case: &Case, outcome: &Outcome, way: u32) -> Result<Met, String> {
         return Err("other slots than the sets have in common".to_string());
     }
     same("count", outcome.numbers[2], slots.len() as u64)?;
-    if way == 0 {
-        same("looks", outcome.numbers[3], 0)?;
-        return same("codes", outcome.numbers[4], 0);
-    }
     let walk = walk(&lists);
     if walk.slots != slots {
         return Err("the walk finds other slots".to_string());
     }
-    same("looks", outcome.numbers[3], walk.looks)?;
-    same("codes", outcome.numbers[4], walk.codes)?;
+    if way == 0 {
+        costs(outcome, &[], &[])?;
+        let dear = walk.looks.iter().any(|&looks| looks > 0);
+        return Ok(if dear {
+            zeros(case, PLAIN_ZEROS)
+        } else {
+            Met::new()
+        });
+    }
+    costs(outcome, &walk.looks, &walk.codes)?;
     let mut met = met_by_names(names, &lists);
     met.extend(lists.iter().flat_map(|list| met_by_list(list)));
+    met.extend(met_by_costs(names, &walk));
     met.extend(walk.met);
     Ok(met)
+}
+
+/// The answer has these looks and codes at the positions, 0 behind them, and
+/// their totals.
+fn costs(outcome: &Outcome, looks: &[u64], codes: &[u64]) -> Result<Met, String> {
+    same("looks", outcome.numbers[3], looks.iter().sum())?;
+    same("codes", outcome.numbers[4], codes.iter().sum())?;
+    for position in 0..LOOKS_AT.len() {
+        let must = |costs: &[u64]| costs.get(position).copied().unwrap_or(0);
+        let (l, c) = (LOOKS_AT.start + position, CODES_AT.start + position);
+        same(
+            &format!("looks at position {position}"),
+            outcome.numbers[l],
+            must(looks),
+        )?;
+        same(
+            &format!("codes at position {position}"),
+            outcome.numbers[c],
+            must(codes),
+        )?;
+    }
+    Ok(Met::new())
 }

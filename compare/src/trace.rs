@@ -19,12 +19,20 @@ pub const BEHIND_ALL: &str = "x behind the last block";
 pub const STAYED: &str = "finger above 0 stays";
 pub const NONE_LEFT: &str = "no candidate left for a name";
 
+// A position counts as one with a cost where it has looks and codes.
+pub const COST_BELOW: &str = "a cost below the starting list's position";
+pub const COST_ABOVE: &str = "a cost above the starting list's position";
+pub const COST_THREE: &str = "costs at three positions or more";
+pub const COST_TWICE: &str = "a list named twice, its two costs different";
+pub const COST_LAST: &str = "sixteen names, a cost at the last";
+pub const START_LATER: &str = "the starting list isn't the first name";
+
 pub const WRITTEN_TWO: &str = "written: a code of two bytes";
 pub const WRITTEN_THREE: &str = "written: a code of three bytes";
 pub const WRITTEN_CUT: &str = "written: a cut inside a byte";
 
 /// What must be met somewhere in a run.
-pub const MET: [&str; 17] = [
+pub const MET: [&str; 23] = [
     TWO_BYTES,
     THREE_BYTES,
     INSIDE,
@@ -39,6 +47,12 @@ pub const MET: [&str; 17] = [
     BEHIND_ALL,
     STAYED,
     NONE_LEFT,
+    COST_BELOW,
+    COST_ABOVE,
+    COST_THREE,
+    COST_TWICE,
+    COST_LAST,
+    START_LATER,
     WRITTEN_TWO,
     WRITTEN_THREE,
     WRITTEN_CUT,
@@ -48,8 +62,11 @@ pub const MET: [&str; 17] = [
 #[derive(Default)]
 pub struct Walk {
     pub slots: Vec<u32>,
-    pub looks: u64,
-    pub codes: u64,
+    /// The position of the starting list.
+    pub start: usize,
+    /// What each position has cost, in the order named.
+    pub looks: Vec<u64>,
+    pub codes: Vec<u64>,
     pub met: BTreeSet<&'static str>,
 }
 
@@ -101,22 +118,48 @@ pub fn met_by_names(names: &[u32], lists: &[&Seen]) -> BTreeSet<&'static str> {
     met
 }
 
+/// Where the costs of a walk lie.
+pub fn met_by_costs(names: &[u32], walk: &Walk) -> BTreeSet<&'static str> {
+    let mut met = BTreeSet::new();
+    let costly: Vec<usize> = (0..names.len())
+        .filter(|&at| walk.looks[at] > 0 && walk.codes[at] > 0)
+        .collect();
+    let differ = |a: usize, b: usize| walk.looks[a] != walk.looks[b];
+    let again = |&a: &usize| costly.iter().any(|&b| names[a] == names[b] && differ(a, b));
+    for (event, happened) in [
+        (COST_BELOW, costly.iter().any(|&at| at < walk.start)),
+        (COST_ABOVE, costly.iter().any(|&at| at > walk.start)),
+        (COST_THREE, costly.len() >= 3),
+        (COST_TWICE, costly.iter().any(again)),
+        (COST_LAST, names.len() == 16 && costly.contains(&15)),
+        (START_LATER, walk.start > 0),
+    ] {
+        if happened {
+            met.insert(event);
+        }
+    }
+    met
+}
+
 /// The walk by skips over the lists in the order named.
 pub fn walk(lists: &[&Seen]) -> Walk {
-    let mut order: Vec<&Seen> = lists.to_vec();
-    order.sort_by_key(|list| list.held.len());
+    let mut order: Vec<usize> = (0..lists.len()).collect();
+    order.sort_by_key(|&position| lists[position].held.len());
     let mut walk = Walk {
-        slots: order[0].held.clone(),
+        slots: lists[order[0]].held.clone(),
+        start: order[0],
+        looks: vec![0; lists.len()],
+        codes: vec![0; lists.len()],
         ..Walk::default()
     };
-    for list in &order[1..] {
-        sift(&mut walk, list);
+    for &position in &order[1..] {
+        sift(&mut walk, position, lists[position]);
     }
     walk
 }
 
-/// Keeps the candidates that one more list holds.
-fn sift(walk: &mut Walk, list: &Seen) {
+/// Keeps the candidates that the list of one more position holds.
+fn sift(walk: &mut Walk, position: usize, list: &Seen) {
     if walk.slots.is_empty() {
         walk.met.insert(NONE_LEFT);
     }
@@ -131,8 +174,8 @@ fn sift(walk: &mut Walk, list: &Seen) {
             let found = search(list, finger, x);
             note(walk, list, finger, &found);
             finger = found.j;
-            walk.looks += found.looks;
-            found.j > 0 && in_block(walk, list, found.j, x)
+            walk.looks[position] += found.looks;
+            found.j > 0 && in_block(walk, position, list, found.j, x)
         };
         if holds {
             walk.slots.push(x);
@@ -196,14 +239,14 @@ fn search(list: &Seen, p: usize, x: u32) -> Found {
 }
 
 /// Reads block j until a slot that is not below x, or the block's end.
-fn in_block(walk: &mut Walk, list: &Seen, j: usize, x: u32) -> bool {
+fn in_block(walk: &mut Walk, position: usize, list: &Seen, j: usize, x: u32) -> bool {
     let block = &list.blocks[j - 1];
     let mut slot = block[0].0;
     for &(next, length) in &block[1..] {
         if slot >= x {
             break;
         }
-        walk.codes += 1;
+        walk.codes[position] += 1;
         match length {
             2 => walk.met.insert(TWO_BYTES),
             3 => walk.met.insert(THREE_BYTES),
@@ -240,33 +283,62 @@ mod tests {
             .collect()
     }
 
-    /// Looks, codes and slots of a walk over some of the lists.
-    fn walked(lists: &[Seen], names: &[usize]) -> (u64, u64, Vec<u32>) {
-        let named: Vec<&Seen> = names.iter().map(|&name| &lists[name]).collect();
+    /// A walk over some of the lists.
+    fn walked(lists: &[Seen], names: &[u32]) -> Walk {
+        let named: Vec<&Seen> = names.iter().map(|&name| &lists[name as usize]).collect();
         let walk = walk(&named);
         assert_eq!(walk.slots, common(&named));
-        (walk.looks, walk.codes, walk.slots)
+        walk
+    }
+
+    /// The walk over these names has these looks and codes at their positions.
+    #[track_caller]
+    fn costs(lists: &[Seen], names: &[u32], looks: &[u64], codes: &[u64]) {
+        let walk = walked(lists, names);
+        assert_eq!((&walk.looks[..], &walk.codes[..]), (looks, codes));
     }
 
     #[test]
     fn the_papers_questions() {
         let lists = shelf(4, &[(0, &ZERO), (16, &ONE)]);
-        let both = vec![5, 12, 16, 26, 30];
-        assert_eq!(walked(&lists, &[0, 1]), (9, 14, both.clone()));
-        assert_eq!(walked(&lists, &[1]), (0, 0, ONE.to_vec()));
-        assert_eq!(walked(&lists, &[1, 1]), (1, 3, ONE.to_vec()));
-        assert_eq!(walked(&lists, &[1, 0, 0]), (17, 25, both));
+        let both = [5, 12, 16, 26, 30];
+        assert_eq!(walked(&lists, &[0, 1]).slots, both);
+        assert_eq!(walked(&lists, &[1, 1]).slots, ONE);
+        assert_eq!(walked(&lists, &[1, 0, 0]).slots, both);
+        costs(&lists, &[1], &[0], &[0]);
+        costs(&lists, &[0, 1], &[9, 0], &[14, 0]);
+        costs(&lists, &[1, 0], &[0, 9], &[0, 14]);
+        costs(&lists, &[1, 1], &[0, 1], &[0, 3]);
+        costs(&lists, &[1, 0, 0], &[0, 9, 8], &[0, 14, 11]);
+        costs(&lists, &[0, 1, 0], &[9, 0, 8], &[14, 0, 11]);
     }
 
     #[test]
     fn ties_and_order() {
         let lists = shelf(1, &[(0, &[7, 8, 9, 10]), (0, &[1, 2, 3, 4])]);
-        assert_eq!(walked(&lists, &[0, 1]).0, 3);
-        assert_eq!(walked(&lists, &[1, 0]).0, 4);
+        costs(&lists, &[0, 1], &[0, 3], &[0, 0]);
+        costs(&lists, &[1, 0], &[0, 4], &[0, 0]);
         let all: Vec<u32> = (1..=26).collect();
         let even: Vec<u32> = (1..=12).map(|i| 2 * i).collect();
         let lists = shelf(2, &[(0, &[4, 9, 16, 25]), (0, &all), (0, &even)]);
-        assert_eq!(walked(&lists, &[0, 1, 2]), (20, 6, vec![4, 16]));
+        assert_eq!(walked(&lists, &[0, 1, 2]).slots, [4, 16]);
+        costs(&lists, &[0, 1, 2], &[0, 10, 10], &[0, 2, 4]);
+        costs(&lists, &[2, 1, 0], &[10, 10, 0], &[4, 2, 0]);
+    }
+
+    #[test]
+    fn where_costs_lie() {
+        let lists = shelf(4, &[(0, &ZERO), (16, &ONE)]);
+        let met = |names: &[u32]| met_by_costs(names, &walked(&lists, names));
+        assert_eq!(met(&[1]), BTreeSet::new());
+        assert_eq!(met(&[1, 0]), BTreeSet::from([COST_ABOVE]));
+        assert_eq!(met(&[0, 1]), BTreeSet::from([COST_BELOW, START_LATER]));
+        assert_eq!(met(&[1, 0, 0]), BTreeSet::from([COST_ABOVE, COST_TWICE]));
+        // Each position of list 1 but the first costs the same.
+        let four = BTreeSet::from([COST_ABOVE, COST_THREE]);
+        assert_eq!(met(&[1, 1, 1, 0]), four);
+        let sixteen = BTreeSet::from([COST_ABOVE, COST_THREE, COST_LAST]);
+        assert_eq!(met(&[1; 16]), sixteen);
     }
 
     #[test]

@@ -1,6 +1,8 @@
 //! What the operations hand back. Every one of these carries a number, where
 //! 0 means accepted, and a place, and on a refusal nothing else.
 
+use crate::MOST_NAMES;
+
 /// The outcome of looking at an index. Also the reason of a refusal anywhere.
 #[derive(Clone, Copy, Debug, PartialEq, Eq)]
 pub struct Verdict {
@@ -26,6 +28,9 @@ impl Verdict {
 }
 
 /// The outcome of a question. `count` slots stand at the front of the slice.
+/// `looks` and `codes` are the totals of the costs at each position of the
+/// question as asked; the starting list's position and those without a name
+/// have 0.
 #[derive(Clone, Copy, Debug, PartialEq, Eq)]
 pub struct Answer {
     pub number: u32,
@@ -33,6 +38,8 @@ pub struct Answer {
     pub count: u32,
     pub looks: u64,
     pub codes: u64,
+    pub looks_at: [u64; MOST_NAMES],
+    pub codes_at: [u64; MOST_NAMES],
 }
 
 /// The outcome of testing one slot.
@@ -76,6 +83,8 @@ impl From<Verdict> for Answer {
             count: 0,
             looks: 0,
             codes: 0,
+            looks_at: [0; MOST_NAMES],
+            codes_at: [0; MOST_NAMES],
         }
     }
 }

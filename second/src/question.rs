@@ -38,13 +38,20 @@ pub fn ask(index: &[u8], way: u32, names: &[u32], slots: &mut [u32]) -> Answer {
     };
     slots.fill(0);
     slots[..found.slots.len()].copy_from_slice(&found.slots);
-    Answer {
-        number: 0,
-        place: 0,
-        count: found.slots.len() as u32,
-        looks: found.costs.iter().map(|cost| cost.looks).sum(),
-        codes: found.costs.iter().map(|cost| cost.codes).sum(),
+    accepted(&found)
+}
+
+/// The answer, with the cost of each position and the totals.
+fn accepted(found: &Found) -> Answer {
+    let mut answer = Answer::from(Verdict::ACCEPTED);
+    answer.count = found.slots.len() as u32;
+    for (position, cost) in found.costs.iter().enumerate() {
+        answer.looks_at[position] = cost.looks;
+        answer.codes_at[position] = cost.codes;
+        answer.looks += cost.looks;
+        answer.codes += cost.codes;
     }
+    answer
 }
 
 /// The checks of a question: the index, 14, 10, 11 and 12. Gives the records in

@@ -230,6 +230,17 @@ class Library(unittest.TestCase):
         self.assertIn("slots_look", said)
         self.assertIn("run ./build-lib", said)
 
+    def test_an_older_library(self):
+        """One whose answer to a question has five fields, and not the costs of the positions."""
+
+        def five(*given):
+            given[-2][:5] = [0, 0, 0, 9, 14]
+            return 0
+
+        with mock.patch("slots._library", return_value=mock.Mock(slots_ask=five)):
+            with self.assertRaisesRegex(slots.NoLibrary, r"^the library is older than this module \(slots_ask leaves out fields\): run ./build-lib"):
+                slots.ask(EXAMPLE, 1, [0, 1], 7)
+
     def test_machines(self):
         build = PYTHON.parents[1] / "build"
         with mock.patch.dict(os.environ):

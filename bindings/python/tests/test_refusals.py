@@ -195,6 +195,17 @@ class Words(Case):
             self.assertEqual((type(again), vars(again), str(again)), (Refused, vars(refused), str(refused)))
 
 
+def numbered(members):
+    """The members of an enum of C with their numbers: one more than the member before, or the sum of others that is said behind `=`."""
+    known = {"SLOTS_MOST_NAMES": slots.MOST_NAMES}
+    following = 0
+    for member in re.sub(r"/\*.*?\*/", "", members).split(","):
+        name, _, said = map(str.strip, member.partition("="))
+        known[name] = sum(known[each] for each in said.split(" + ")) if said else following
+        following = known[name] + 1
+    return known
+
+
 class Header(unittest.TestCase):
     """Nothing but this test holds a declaration here to the one there."""
 
@@ -240,8 +251,18 @@ class Header(unittest.TestCase):
             slots.write(32, 4, 16, LIST_1, bytearray(24))
             slots.close(bytearray(RECORD_1 + bytes(28)), 32, 4, 24, [0])
         fields = {each[0][0]: each[0][1] for each in call.call_args_list}
-        enums = re.findall(r"enum (slots_\w+)_field \{(.*?)\};", self.text)
-        self.assertEqual(fields, {name: members.count(",") for name, members in enums})  # the last member is their number
+        enums = re.findall(r"enum (slots_\w+)_field \{(.*?)\};", self.text, re.S)
+        self.assertEqual(fields, {name: numbered(members)[f"{name.upper()}_FIELDS"] for name, members in enums})
+
+    def test_where_the_costs_of_the_positions_stand(self):
+        members = numbered(self.enum("slots_ask_field"))
+        self.assertEqual([members[f"SLOTS_ASK_{name}"] for name in ("NUMBER", "PLACE", "COUNT", "LOOKS", "CODES", "LOOKS_AT", "CODES_AT", "FIELDS")],
+                         [0, 1, 2, 3, 4, 5, 21, 37])
+        # Fields that are numbered as the header numbers them: the module takes those from LOOKS_AT and from CODES_AT on.
+        answer = [0, 0, *range(2, 37)]
+        with mock.patch("slots._call", return_value=answer):
+            found = slots.ask(EXAMPLE, 1, [0, 1, 2], 9)
+        self.assertEqual((found.looks_at, found.codes_at), ((5, 6, 7), (21, 22, 23)))
 
 
 class Order(Case):

@@ -17,6 +17,9 @@ from slots import Way
 
 from .common import BOTH, EXAMPLE, LIST_0, LIST_1, RACK, RECORD_0, RECORD_1, random_rack
 
+# What the example answers by skips for lists 0 and 1, in this order. List 1 is the smaller, so all is sought in list 0.
+SOUGHT = slots.Answer(BOTH, 9, 14, (9, 0), (14, 0))
+
 
 def buffers(data: bytes):
     """The same bytes in objects of every kind that the module takes; those that need it are closed by the caller."""
@@ -42,13 +45,13 @@ class Example(unittest.TestCase):
             self.assertEqual((answer.slots, answer.looks, answer.codes), (BOTH, 9, 14))
 
     def test_ask_plain(self):
-        self.assertEqual(slots.ask(EXAMPLE, Way.PLAIN, [0, 1]), slots.Answer(BOTH, 0, 0))
+        self.assertEqual(slots.ask(EXAMPLE, Way.PLAIN, [0, 1]), slots.Answer(BOTH, 0, 0, (0, 0), (0, 0)))
         self.assertEqual(slots.ask(EXAMPLE, 0, [0]).slots, LIST_0)
 
     def test_ask_for_one_list_twice(self):
         # List 1 in itself: 3 5 12 16 are bits and cost nothing. 26 takes a look at the one entry and no code; then the finger stands behind the last
         # entry: no look more, one code for 30 and two for 31.
-        self.assertEqual(slots.ask(EXAMPLE, Way.BY_SKIPS, [1, 1]), slots.Answer(LIST_1, 1, 3))
+        self.assertEqual(slots.ask(EXAMPLE, Way.BY_SKIPS, [1, 1]), slots.Answer(LIST_1, 1, 3, (0, 1), (0, 3)))
 
     def test_ask_for_as_many_names_as_there_may_be(self):
         self.assertEqual(slots.ask(EXAMPLE, Way.PLAIN, [0, 1] * 8).slots, BOTH)
@@ -57,7 +60,7 @@ class Example(unittest.TestCase):
         # Seven is what list 1 needs. The last would be 16 gigabytes if it were taken at its word.
         for room, places in (7, 7), (8, 8), (1_048_576, 1_048_576), (1_048_577, 1_048_576), (2**32 - 1, 1_048_576):
             with mock.patch("slots._call", wraps=slots._call) as call:
-                self.assertEqual(slots.ask(EXAMPLE, Way.BY_SKIPS, [0, 1], room), slots.Answer(BOTH, 9, 14))
+                self.assertEqual(slots.ask(EXAMPLE, Way.BY_SKIPS, [0, 1], room), SOUGHT)
             self.assertEqual((call.call_count, len(call.call_args[0][-2]), call.call_args[0][-1]), (1, places, places))
 
     def test_test(self):
@@ -96,8 +99,59 @@ class Example(unittest.TestCase):
         index = slots.index_of(5, 1, [slots.record(5, 1, 0, []), slots.record(5, 1, 5, [])])
         # Heads alone, with cut 0 and cut 5; the second has a byte of bits.
         self.assertEqual(index[:25], bytes(12) + bytes([5]) + bytes(12))
-        self.assertEqual(slots.ask(index, Way.BY_SKIPS, [0, 1]), slots.Answer([], 0, 0))
-        self.assertEqual(slots.ask(index, Way.PLAIN, [1], 0), slots.Answer([], 0, 0))
+        self.assertEqual(slots.ask(index, Way.BY_SKIPS, [0, 1]), slots.Answer([], 0, 0, (0, 0), (0, 0)))
+        self.assertEqual(slots.ask(index, Way.PLAIN, [1], 0), slots.Answer([], 0, 0, (0,), (0,)))
+
+
+class Costs(unittest.TestCase):
+    """Which list cost what, by hand from the walk of docs/FORMAT.md.
+
+    List 1 is the starting list where it is named. Its seven slots are tried in list 0 at 9 looks and 14 codes. Where list 0 is named again,
+    5 12 16 26 30 are left to be tried, at 2 2 1 2 1 looks and 2 1 3 3 2 codes. What list 1 costs in itself is told above.
+    """
+
+    QUESTIONS = [
+        ([0, 1], (9, 0), (14, 0)),
+        ([1, 0], (0, 9), (0, 14)),
+        ([1, 0, 0], (0, 9, 8), (0, 14, 11)),
+        ([0, 1, 0], (9, 0, 8), (14, 0, 11)),
+        ([1, 0, 1], (0, 9, 1), (0, 14, 3)),
+        ([0, 1, 1], (9, 0, 1), (14, 0, 3)),
+        ([1, 1], (0, 1), (0, 3)),
+        ([0], (0,), (0,)),
+        ([1], (0,), (0,)),
+        ([0, 1] * 8, (9, 0) + (8, 1) * 7, (14, 0) + (11, 3) * 7),
+    ]
+
+    def test_each_position(self):
+        for names, looks, codes in self.QUESTIONS:
+            answer = slots.ask(EXAMPLE, Way.BY_SKIPS, names)
+            self.assertEqual((answer.looks_at, answer.codes_at), (looks, codes), names)
+
+    def test_the_totals(self):
+        for names, looks, codes in self.QUESTIONS:
+            answer = slots.ask(EXAMPLE, Way.BY_SKIPS, iter(names))
+            self.assertEqual((answer.looks, answer.codes), (sum(looks), sum(codes)), names)
+
+    def test_plainly(self):
+        for names, _, _ in self.QUESTIONS:
+            nothing = (0,) * len(names)
+            answer = slots.ask(EXAMPLE, Way.PLAIN, names)
+            self.assertEqual((answer.looks, answer.codes, answer.looks_at, answer.codes_at), (0, 0, nothing, nothing), names)
+
+    def test_of_two_with_the_same_count_the_one_named_first_costs_nothing(self):
+        # One block each, 1 3 and 2 3. 1 lies before the block 2 3: a look and no code; 3 then takes a look and a code. In the block 1 3, 2 takes a look
+        # and a code, and 3, with the finger there, a code.
+        index = slots.index_of(9, 2, [slots.record(9, 2, 0, [1, 3]), slots.record(9, 2, 0, [2, 3])])
+        self.assertEqual(slots.ask(index, Way.BY_SKIPS, [0, 1]), slots.Answer([3], 2, 1, (0, 2), (0, 1)))
+        self.assertEqual(slots.ask(index, Way.BY_SKIPS, [1, 0]), slots.Answer([3], 1, 2, (0, 1), (0, 2)))
+
+    def test_they_cannot_be_changed(self):
+        answer = slots.ask(EXAMPLE, Way.BY_SKIPS, [0, 1])
+        with self.assertRaises(AttributeError):
+            answer.looks_at = (0, 0)
+        with self.assertRaises(TypeError):
+            answer.codes_at[0] = 0
 
 
 class Answers(unittest.TestCase):
@@ -127,7 +181,7 @@ class Answers(unittest.TestCase):
         self.assertFalse(slots.ask(nothing, 0, [0, 1]))
 
     def test_copies_and_pickles(self):
-        for value in slots.Answer([5], 9, 14), slots.Tested(True), slots.Tested(False), slots.Counted(7), slots.Written(24):
+        for value in SOUGHT, slots.Tested(True), slots.Tested(False), slots.Counted(7), slots.Written(24):
             for again in copy.copy(value), copy.deepcopy(value), pickle.loads(pickle.dumps(value)):
                 self.assertEqual((type(again), again, repr(again)), (type(value), value, repr(value)))
 
@@ -144,7 +198,7 @@ class Memory(unittest.TestCase):
         for index in buffers(EXAMPLE):
             with self.subTest(kind=type(index).__name__):
                 self.assertIs(True, slots.look(index))
-                self.assertEqual(slots.ask(index, 1, [0, 1]), slots.Answer(BOTH, 9, 14))
+                self.assertEqual(slots.ask(index, 1, [0, 1]), SOUGHT)
                 self.assertTrue(slots.test(index, 0, 5))
                 self.assertEqual(slots.count(index, 0), 15)
                 lent = slots.lend(index, 1)
@@ -228,7 +282,7 @@ class Memory(unittest.TestCase):
             thread.start()
         for thread in threads:
             thread.join()
-        self.assertEqual(found, [slots.Answer(BOTH, 9, 14)] * 200)
+        self.assertEqual(found, [SOUGHT] * 200)
 
 
 class Racks(unittest.TestCase):
@@ -255,6 +309,17 @@ class Racks(unittest.TestCase):
             for way in Way:
                 self.assertEqual(slots.ask(rack.index, way, names).slots, shared)
                 self.assertEqual(slots.ask(rack.index, way, names, needed).slots, shared)
+
+    def test_costs(self):
+        chance = random.Random(4)
+        for _ in range(300):
+            rack = random_rack(chance)
+            names = [chance.randrange(len(rack.lists)) for _ in range(chance.randint(1, 16))]
+            starting = min(range(len(names)), key=lambda at: (len(rack.lists[names[at]]), at))
+            answer = slots.ask(rack.index, Way.BY_SKIPS, names)
+            self.assertEqual((len(answer.looks_at), len(answer.codes_at)), (len(names), len(names)))
+            self.assertEqual((answer.looks_at[starting], answer.codes_at[starting]), (0, 0))
+            self.assertEqual((sum(answer.looks_at), sum(answer.codes_at)), (answer.looks, answer.codes))
 
     def test_lent_records_are_those_that_were_written(self):
         chance = random.Random(3)

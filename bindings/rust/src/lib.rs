@@ -7,7 +7,7 @@
 //! | function | answers |
 //! |---|---|
 //! | [`look`] | whether an index is sound |
-//! | [`ask`], [`ask_owned`] | which slots all lists named hold, and what finding them cost |
+//! | [`ask`], [`ask_owned`] | which slots all lists named hold, and what finding them cost, list by list |
 //! | [`test()`] | whether a list holds a slot |
 //! | [`count`] | how many slots a list holds |
 //! | [`lend`] | the bytes of a list's record |

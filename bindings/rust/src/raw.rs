@@ -12,6 +12,8 @@
 //! - Nobody changes any of them meanwhile: `&` and `&mut` exclude it until the call is over. The
 //!   library keeps no pointer and no state, so the references may end there.
 
+use crate::MOST_NAMES;
+
 extern "C" {
     fn slots_look(index: *const u8, index_len: usize, out: *mut u64, out_len: usize) -> u32;
     fn slots_ask(
@@ -63,9 +65,12 @@ pub(crate) fn look(index: &[u8]) -> [u64; 2] {
     agreed(out, 0, number)
 }
 
-/// Number, place, count, looks and codes.
-pub(crate) fn ask(index: &[u8], way: u32, names: &[u32], slots: &mut [u32]) -> [u64; 5] {
-    let mut out = [UNWRITTEN; 5];
+/// How many fields the answer of a question has: five, and looks and codes for each position.
+const ASK_FIELDS: usize = 5 + 2 * MOST_NAMES;
+
+/// Number, place, count, looks and codes; then the looks of each position, then the codes of each.
+pub(crate) fn ask(index: &[u8], way: u32, names: &[u32], slots: &mut [u32]) -> [u64; ASK_FIELDS] {
+    let mut out = [UNWRITTEN; ASK_FIELDS];
     // SAFETY: each pointer and the length behind it are of one slice. `index` and `names` are only
     // read; `slots` is a `&mut` and so overlaps neither of them; `out` is ours alone.
     let number = unsafe {

@@ -3,9 +3,10 @@
 //! Each hands its slices to the library and puts the fields of the answer into words of Rust. Ordinary
 //! slicing checks what the library says of a caller's slice, so no answer can lead out of one.
 
-use crate::answer::{Answer, Counted, Lent, OwnedAnswer, Tested, Way};
+use crate::answer::{Answer, Counted, Lent, OwnedAnswer, PerName, Tested, Way};
 use crate::raw;
 use crate::refusal::{narrow, verdict, Refusal, Refused};
+use crate::MOST_NAMES;
 
 /// Whether the index is sound.
 ///
@@ -46,6 +47,10 @@ pub fn look(index: &[u8]) -> Result<(), Refused> {
 /// assert_eq!(answer.slots, [5, 12, 16, 26, 30]);
 /// assert_eq!((answer.looks, answer.codes), (9, 14));
 ///
+/// // Which list cost what: list 1 is the smaller, so its slots are sought in list 0.
+/// assert_eq!(answer.looks_at(), [9, 0]);
+/// assert_eq!(answer.codes_at(), [14, 0]);
+///
 /// // There is no list 2, and its name stands at position 1.
 /// let refused = ask(&index, Way::BySkips, &[0, 2], &mut slots).unwrap_err();
 /// assert_eq!(refused.to_string(), "11: there is no list of that name (name at position 1)");
@@ -58,10 +63,13 @@ pub fn look(index: &[u8]) -> Result<(), Refused> {
 /// with the position of the first such name; [`NoRoom`](Refusal::NoRoom), with the room needed.
 /// `slots` is then as it was.
 pub fn ask<'s>(index: &[u8], way: Way, names: &[u32], slots: &'s mut [u32]) -> Result<Answer<'s>, Refused> {
-    let [number, place, count, looks, codes] = raw::ask(index, way as u32, names, slots);
+    let [number, place, count, looks, codes, at @ ..] = raw::ask(index, way as u32, names, slots);
     verdict(number, place)?;
     let slots = &slots[..narrow(count) as usize];
-    Ok(Answer { slots, looks, codes })
+    let (looks_at, codes_at) = at.split_at(MOST_NAMES);
+    let looks_at = PerName::first(names.len(), looks_at);
+    let codes_at = PerName::first(names.len(), codes_at);
+    Ok(Answer { slots, looks, codes, looks_at, codes_at })
 }
 
 /// As [`ask`], with a buffer of its own for the answer.

@@ -89,6 +89,42 @@ fn the_limits_are_those_of_the_header() {
     assert_eq!(rows.matches("SLOTS_").count(), expected.len());
 }
 
+#[test]
+fn the_fields_of_a_question_are_those_that_this_package_takes_apart() {
+    let header = header();
+    let fields = numbered(between(&header, "enum slots_ask_field {", "};"));
+    let expected = [
+        ("SLOTS_ASK_NUMBER", 0),
+        ("SLOTS_ASK_PLACE", 1),
+        ("SLOTS_ASK_COUNT", 2),
+        ("SLOTS_ASK_LOOKS", 3),
+        ("SLOTS_ASK_CODES", 4),
+        ("SLOTS_ASK_LOOKS_AT", 5),
+        ("SLOTS_ASK_CODES_AT", 21),
+        ("SLOTS_ASK_FIELDS", 37),
+    ];
+    assert_eq!(fields, expected);
+}
+
+/// The members of an enum with their numbers: one more than the member before, or what is said behind
+/// `=`, which is another member and the most names of a question.
+fn numbered(rows: &str) -> Vec<(&str, usize)> {
+    let mut members: Vec<(&str, usize)> = Vec::new();
+    for row in rows.lines().filter_map(|line| line.split("/*").next()).map(str::trim).filter(|row| !row.is_empty()) {
+        let row = row.trim_end_matches(',');
+        let (name, number) = match row.split_once(" = ") {
+            None => (row, members.last().map_or(0, |(_, before)| before + 1)),
+            Some((name, sum)) => {
+                let other = sum.strip_suffix(" + SLOTS_MOST_NAMES").expect("a sum of that kind");
+                let (_, number) = members.iter().find(|member| member.0 == other).expect("a member before");
+                (name, number + slots::MOST_NAMES)
+            }
+        };
+        members.push((name, number));
+    }
+    members
+}
+
 /// Whether a row of an enum gives this number to this name.
 fn has_row(rows: &str, name: &str, number: u32) -> bool {
     let row = format!("SLOTS_{name} = {number}");

@@ -41,6 +41,7 @@ fn a_full_rack_is_asked_both_ways() {
     assert!(found.slots == all);
     assert_eq!(found.looks, 8_192 * (2 + 127) - 128);
     assert_eq!(found.codes, 8_192 * (127 * 128 / 2));
+    assert_eq!((found.looks_at(), found.codes_at()), (&[0, found.looks][..], &[0, found.codes][..]));
 }
 
 #[test]

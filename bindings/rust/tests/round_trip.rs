@@ -83,6 +83,16 @@ fn check_question(random: &mut Random, made: &Made) {
     for way in [Way::Plain, Way::BySkips] {
         check_rooms(&made.index, way, &names, &expected, needed);
     }
+    let starting = named.iter().position(|list| list.len() == needed).expect("the smallest is one of them");
+    check_costs(&made.index, &names, starting);
+}
+
+/// The totals are those of the positions, and the starting list costs nothing.
+fn check_costs(index: &[u8], names: &[u32], starting: usize) {
+    let found = ask_owned(index, Way::BySkips, names).unwrap();
+    assert_eq!((found.looks_at().len(), found.codes_at().len()), (names.len(), names.len()));
+    assert_eq!((found.looks_at()[starting], found.codes_at()[starting]), (0, 0));
+    assert_eq!((found.looks_at().iter().sum(), found.codes_at().iter().sum()), (found.looks, found.codes));
 }
 
 fn check_rooms(index: &[u8], way: Way, names: &[u32], expected: &[u32], needed: usize) {

@@ -5,10 +5,10 @@ mod packed;
 mod searching;
 mod writing;
 
+use judged::looking;
+use judged::records;
 use queries::asking;
 use queries::lists;
-use queries::looking;
-use queries::records;
 
 fn main() {
     looking::run();

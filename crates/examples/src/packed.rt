@@ -1,5 +1,6 @@
 // Questions to indexes that the library writes and closes itself, all with u 32.
 use queries::asking::ask_64;
+use queries::asking::costs_64;
 use queries::lists::count_list;
 use queries::lists::part_of;
 use queries::lists::test_slot;
@@ -32,6 +33,8 @@ fn ties() {
     let index = front(&room, length);
     ask_64(b"ties 0 1", index, 1, &[0, 1]);
     ask_64(b"ties 1 0", index, 1, &[1, 0]);
+    costs_64(b"costs ties 0 1", index, 1, &[0, 1]);
+    costs_64(b"costs ties 1 0", index, 1, &[1, 0]);
 }
 
 // Fills a slice with the multiples of `step`, from the first on.
@@ -59,6 +62,8 @@ fn rising() {
     let index = front(&room, length);
     ask_64(b"rising counts", index, 1, &[0, 1, 2]);
     ask_64(b"rising counts, names 2 1 0", index, 1, &[2, 1, 0]);
+    costs_64(b"costs rising counts", index, 1, &[0, 1, 2]);
+    costs_64(b"costs rising counts, names 2 1 0", index, 1, &[2, 1, 0]);
 }
 
 // What every operation on an index with rubbish in list 1 gives.

@@ -20,4 +20,5 @@ pub mod Frames
 pub mod Names
 pub mod Orders
 pub mod Questions
+pub mod Places
 pub mod Searches

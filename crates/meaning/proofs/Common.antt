@@ -14,7 +14,7 @@ use Rattle.laws.proofs.Lists.{has-none, has-here, has-there, has-keep, has-plac
 use Rattle.meaning.proofs.Rising.{Ascends, has-low, stop-above}
 use Rattle.meaning.proofs.Sound.{contents-rise, contents-count}
 use Rattle.meaning.proofs.Walking.{AllSound, keep-rise, passed, passed-all}
-use Rattle.meaning.proofs.Orders.{order-length, order-inside, order-has}
+use Rattle.meaning.proofs.Orders.{order-length, order-inside, order-has, order-once}
 
 -- the empty list does not hold what another begins with
 not-there : (y : ℕ) (ys : List ℕ) → ¬ (has y [] ≡ has y (y ∷ ys))
@@ -60,29 +60,33 @@ same-test false false f g = refl
 
 -- z stands in all lists exactly where it stands in each, by position
 module _ (f : List ℕ → List ℕ) (z : ℕ) where
-  in-each : (rs : List (List ℕ)) → inAll (map f rs) z ≡ true → (i : ℕ) → i < length rs → has z (f (getD rs i [])) ≡ true
+  pub in-each : (rs : List (List ℕ)) → inAll (map f rs) z ≡ true → (i : ℕ) → i < length rs → has z (f (getD rs i [])) ≡ true
   unfolding inAll
   in-each [] h i l = absurd (omega arith)
   in-each (r ∷ rs) h zero l = and-eq-true-iff (has z (f r)) (inAll (map f rs) z) .0 h .0
   in-each (r ∷ rs) h (suc i) l = in-each rs (and-eq-true-iff (has z (f r)) (inAll (map f rs) z) .0 h .1) i (omega arith)
 
-  each-in : (rs : List (List ℕ)) → ((i : ℕ) → i < length rs → has z (f (getD rs i [])) ≡ true) → inAll (map f rs) z ≡ true
+  pub each-in : (rs : List (List ℕ)) → ((i : ℕ) → i < length rs → has z (f (getD rs i [])) ≡ true) → inAll (map f rs) z ≡ true
   unfolding inAll
   each-in [] h = refl
   each-in (r ∷ rs) h = rw (h 0 (omega arith)) (each-in rs (λ i l. h (suc i) (omega arith)))
 
 -- The records in order
 module _ (rs : List (List ℕ)) where
-  positions-length : length (positions rs) ≡ length rs
+  pub positions-length : length (positions rs) ≡ length rs
   positions-length = order-length (map countOf rs) ∙ length-map rs countOf
 
   -- each position of the question has a place in the order
-  position-has : (i : ℕ) → i < length rs → has i (positions rs) ≡ true
+  pub position-has : (i : ℕ) → i < length rs → has i (positions rs) ≡ true
   position-has i l = order-has (map countOf rs) i ∙ rw length-map (lt-ltb i (length rs) l)
 
   -- and what has a place there is a position of the question
   pub position-inside : (k : ℕ) → k < length rs → getD (positions rs) k 0 < length rs
   position-inside k l = rw length-map at (order-inside (map countOf rs) k (rw length-map l))
+
+  -- and no other place
+  pub position-once : (j k : ℕ) → j < k → k < length rs → ¬ (getD (positions rs) j 0 ≡ getD (positions rs) k 0)
+  position-once j k l h = order-once (map countOf rs) j k l (rw length-map h)
 
   -- there are as many records as were named
   pub ordered-length : length (inOrder rs) ≡ length rs

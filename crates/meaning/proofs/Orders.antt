@@ -148,9 +148,17 @@ module _ (counts : List ℕ) where
   pub order-inside : (i : ℕ) → i < length counts → getD (order counts) i 0 < length counts
   order-inside i l = each-at (λ j. j < length counts) (order counts) (order-done .below) i (rw order-length l)
 
-  -- each before those behind it, and so none twice
+  -- each before those behind it
   pub order-rise : (a b : ℕ) → a < b → b < length counts → Before counts (getD (order counts) a 0) (getD (order counts) b 0)
   order-rise a b l h = sorted-rise (order counts) (order-done .sorted) a b l (rw order-length h)
+
+  apart : (i j : ℕ) → Before counts i j → ¬ (i ≡ j)
+  apart i j (fewer l) e = let z : count i ≡ count j = ap count e in absurd (omega arith)
+  apart i j (earlier c l) e = absurd (omega arith)
+
+  -- and so none twice
+  pub order-once : (a b : ℕ) → a < b → b < length counts → ¬ (getD (order counts) a 0 ≡ getD (order counts) b 0)
+  order-once a b l h = apart _ _ (order-rise a b l h)
 
   -- the first has the least count
   pub order-least : (i : ℕ) → i < length counts → getD counts (getD (order counts) 0 0) 0 ≤ getD counts i 0

@@ -2,19 +2,25 @@
 use mathlib.Core.Path.{refl}
 use mathlib.Core.Bool.{true}
 use mathlib.Core.List.{[], _∷_, _++_}
+use lib.ListN.{replicate}
 use Rattle.paper.specs.Refusal.{verdict}
 use Rattle.paper.specs.Look.{MeetsLook}
 use Rattle.paper.specs.Ask.{MeetsAsk}
 use Rattle.paper.specs.OneList.{MeetsTest, MeetsCount, MeetsLend, MeetsPart}
 use Rattle.paper.specs.Write.{MeetsWrite}
 use Rattle.paper.specs.Close.{MeetsClose}
+use Rattle.paper.specs.declared.Answer.{Answer}
 use Rattle.paper.proofs.Hex.{list0, list1, index, slots0}
 use Rattle.paper.proofs.Open.{opened}
 use Rattle.paper.proofs.Rows.{room}
 
+-- T1's answer: all was spent in list 0, at position 0, and list 1 gave the candidates
+abbrev t1 : Answer
+t1 = record { number = 0; place = 0; count = 5; looks = 9; codes = 14; looks16 = 9 ∷ replicate 15 0; codes16 = 14 ∷ replicate 15 0 }
+
 pub record Met : Type 0 where
   pub look : MeetsLook index (verdict 0 0)
-  pub ask : MeetsAsk index 1 (0 ∷ 1 ∷ []) (room 8) (record { number = 0; place = 0; count = 5; looks = 9; codes = 14 }) (5 ∷ 12 ∷ 16 ∷ 26 ∷ 30 ∷ 0 ∷ 0 ∷ 0 ∷ [])
+  pub ask : MeetsAsk index 1 (0 ∷ 1 ∷ []) (room 8) t1 (5 ∷ 12 ∷ 16 ∷ 26 ∷ 30 ∷ 0 ∷ 0 ∷ 0 ∷ [])
   pub test : MeetsTest index 0 30 (record { number = 0; place = 0; yes = true })
   pub count : MeetsCount index 1 (record { number = 0; place = 0; count = 7 })
   pub lend : MeetsLend index 1 list1

@@ -92,8 +92,8 @@ paper-rows =
     (105, writing 32 4 16 slots1 (room 24) (0 ∷ 0 ∷ 24 ∷ []) list1) ∷
     (106, closing (list0 ++ list1 ++ room 32) 32 4 79 (0 ∷ 55 ∷ []) (0 ∷ 0 ∷ 111 ∷ []) index) ∷
     (107, running (some index) (hex 5 0x31_20_30_20_31) (hex 22 0x30_20_30_20_39_20_31_34_0A_35_0A_31_32_0A_31_36_0A_32_36_0A_33_30 ++ hex 1 0x0A)) ∷
-    (108, asking index 0 (replicate 16 1) (room 7) (0 ∷ 0 ∷ 7 ∷ 0 ∷ 0 ∷ []) slots1) ∷
-    (109, asking index 0 (replicate 17 1) (room 7) (10 ∷ 0 ∷ 0 ∷ 0 ∷ 0 ∷ []) (room 7)) ∷
+    (108, asking index 0 (replicate 16 1) (room 7) (0 ∷ 0 ∷ 7 ∷ 0 ∷ 0 ∷ []) [] [] slots1) ∷
+    (109, asking index 0 (replicate 17 1) (room 7) (10 ∷ 0 ∷ 0 ∷ 0 ∷ 0 ∷ []) [] [] (room 7)) ∷
     (110, looking (bare 1048576 4) (0 ∷ 0 ∷ [])) ∷
     (111, looking (bare 1048577 4) (4 ∷ 0 ∷ [])) ∷
     (112, looking (bare 32 128) (0 ∷ 0 ∷ [])) ∷
@@ -203,20 +203,20 @@ search-rows =
 -- Questions
 unfoldable pub asking-rows : List (ℕ × Row)
 asking-rows =
-    (301, asking index 2 (replicate 17 1) (room 7) (14 ∷ 0 ∷ 0 ∷ 0 ∷ 0 ∷ []) (room 7)) ∷
-    (302, asking (with 54 0x81) 2 [] (room 1) (8 ∷ 0 ∷ 0 ∷ 0 ∷ 0 ∷ []) (room 1)) ∷
-    (303, asking index 1 (0 ∷ 1 ∷ 2 ∷ 9 ∷ []) [] (11 ∷ 2 ∷ 0 ∷ 0 ∷ 0 ∷ []) []) ∷
-    (304, asking index 1 (0 ∷ []) (room 3) (12 ∷ 15 ∷ 0 ∷ 0 ∷ 0 ∷ []) (room 3)) ∷
-    (305, asking index 0 (0 ∷ 1 ∷ []) (room 6) (12 ∷ 7 ∷ 0 ∷ 0 ∷ 0 ∷ []) (room 6)) ∷
-    (306, asking index 1 (1 ∷ 0 ∷ 0 ∷ []) (room 7) (0 ∷ 0 ∷ 5 ∷ 17 ∷ 25 ∷ []) (5 ∷ 12 ∷ 16 ∷ 26 ∷ 30 ∷ 0 ∷ 0 ∷ [])) ∷
-    (307, asking index 1 (replicate 16 1) (room 7) (0 ∷ 0 ∷ 7 ∷ 15 ∷ 45 ∷ []) slots1) ∷
-    (308, asking ties 1 (0 ∷ 1 ∷ []) (room 4) (0 ∷ 0 ∷ 0 ∷ 3 ∷ 0 ∷ []) (replicate 4 0)) ∷
-    (309, asking ties 1 (1 ∷ 0 ∷ []) (room 4) (0 ∷ 0 ∷ 0 ∷ 4 ∷ 0 ∷ []) (replicate 4 0)) ∷
-    (310, asking ties 1 (0 ∷ 1 ∷ 1 ∷ []) (room 4) (0 ∷ 0 ∷ 0 ∷ 3 ∷ 0 ∷ []) (replicate 4 0)) ∷
-    (311, asking three 1 (0 ∷ 1 ∷ 2 ∷ []) (room 4) (0 ∷ 0 ∷ 2 ∷ 20 ∷ 6 ∷ []) (4 ∷ 16 ∷ 0 ∷ 0 ∷ [])) ∷
-    (312, asking tidy 1 (0 ∷ 1 ∷ []) (room 5) (0 ∷ 0 ∷ 4 ∷ 5 ∷ 1 ∷ []) (3 ∷ 11 ∷ 13 ∷ 22 ∷ 0 ∷ [])) ∷
-    (313, asking tailless 1 (0 ∷ 1 ∷ []) (room 2) (0 ∷ 0 ∷ 1 ∷ 0 ∷ 0 ∷ []) (5 ∷ 0 ∷ [])) ∷
-    (314, asking index 1 (replicate 17 9) [] (10 ∷ 0 ∷ 0 ∷ 0 ∷ 0 ∷ []) []) ∷
+    (301, asking index 2 (replicate 17 1) (room 7) (14 ∷ 0 ∷ 0 ∷ 0 ∷ 0 ∷ []) [] [] (room 7)) ∷
+    (302, asking (with 54 0x81) 2 [] (room 1) (8 ∷ 0 ∷ 0 ∷ 0 ∷ 0 ∷ []) [] [] (room 1)) ∷
+    (303, asking index 1 (0 ∷ 1 ∷ 2 ∷ 9 ∷ []) [] (11 ∷ 2 ∷ 0 ∷ 0 ∷ 0 ∷ []) [] [] []) ∷
+    (304, asking index 1 (0 ∷ []) (room 3) (12 ∷ 15 ∷ 0 ∷ 0 ∷ 0 ∷ []) [] [] (room 3)) ∷
+    (305, asking index 0 (0 ∷ 1 ∷ []) (room 6) (12 ∷ 7 ∷ 0 ∷ 0 ∷ 0 ∷ []) [] [] (room 6)) ∷
+    (306, asking index 1 (1 ∷ 0 ∷ 0 ∷ []) (room 7) (0 ∷ 0 ∷ 5 ∷ 17 ∷ 25 ∷ []) (0 ∷ 9 ∷ 8 ∷ []) (0 ∷ 14 ∷ 11 ∷ []) (5 ∷ 12 ∷ 16 ∷ 26 ∷ 30 ∷ 0 ∷ 0 ∷ [])) ∷
+    (307, asking index 1 (replicate 16 1) (room 7) (0 ∷ 0 ∷ 7 ∷ 15 ∷ 45 ∷ []) (0 ∷ replicate 15 1) (0 ∷ replicate 15 3) slots1) ∷
+    (308, asking ties 1 (0 ∷ 1 ∷ []) (room 4) (0 ∷ 0 ∷ 0 ∷ 3 ∷ 0 ∷ []) (0 ∷ 3 ∷ []) [] (replicate 4 0)) ∷
+    (309, asking ties 1 (1 ∷ 0 ∷ []) (room 4) (0 ∷ 0 ∷ 0 ∷ 4 ∷ 0 ∷ []) (0 ∷ 4 ∷ []) [] (replicate 4 0)) ∷
+    (310, asking ties 1 (0 ∷ 1 ∷ 1 ∷ []) (room 4) (0 ∷ 0 ∷ 0 ∷ 3 ∷ 0 ∷ []) (0 ∷ 3 ∷ 0 ∷ []) [] (replicate 4 0)) ∷
+    (311, asking three 1 (0 ∷ 1 ∷ 2 ∷ []) (room 4) (0 ∷ 0 ∷ 2 ∷ 20 ∷ 6 ∷ []) (0 ∷ 10 ∷ 10 ∷ []) (0 ∷ 2 ∷ 4 ∷ []) (4 ∷ 16 ∷ 0 ∷ 0 ∷ [])) ∷
+    (312, asking tidy 1 (0 ∷ 1 ∷ []) (room 5) (0 ∷ 0 ∷ 4 ∷ 5 ∷ 1 ∷ []) (0 ∷ 5 ∷ []) (0 ∷ 1 ∷ []) (3 ∷ 11 ∷ 13 ∷ 22 ∷ 0 ∷ [])) ∷
+    (313, asking tailless 1 (0 ∷ 1 ∷ []) (room 2) (0 ∷ 0 ∷ 1 ∷ 0 ∷ 0 ∷ []) [] [] (5 ∷ 0 ∷ [])) ∷
+    (314, asking index 1 (replicate 17 9) [] (10 ∷ 0 ∷ 0 ∷ 0 ∷ 0 ∷ []) [] [] []) ∷
     []
 
 -- Codes, writing and closing
@@ -328,8 +328,8 @@ rubbish-rows =
     (631, looking rubbish (17 ∷ 1 ∷ [])) ∷
     (632, looking (set rubbish 12 0) (9 ∷ 0 ∷ [])) ∷
     (633, looking (packed 32 2 (stained ∷ set few 12 0 ∷ [])) (17 ∷ 0 ∷ [])) ∷
-    (634, asking rubbish 2 [] (room 5) (17 ∷ 1 ∷ 0 ∷ 0 ∷ 0 ∷ []) (room 5)) ∷
-    (635, asking rubbish 1 (0 ∷ []) (room 5) (17 ∷ 1 ∷ 0 ∷ 0 ∷ 0 ∷ []) (room 5)) ∷
+    (634, asking rubbish 2 [] (room 5) (17 ∷ 1 ∷ 0 ∷ 0 ∷ 0 ∷ []) [] [] (room 5)) ∷
+    (635, asking rubbish 1 (0 ∷ []) (room 5) (17 ∷ 1 ∷ 0 ∷ 0 ∷ 0 ∷ []) [] [] (room 5)) ∷
     (636, testing rubbish 0 3 (17 ∷ 1 ∷ 0 ∷ [])) ∷
     (637, counting rubbish 2 (17 ∷ 1 ∷ 0 ∷ [])) ∷
     (638, lending rubbish 0 (17 ∷ 1 ∷ 0 ∷ 0 ∷ []) []) ∷
@@ -337,9 +337,24 @@ rubbish-rows =
     (640, closing (few ++ spotless ++ room 32) 32 2 78 (0 ∷ 38 ∷ []) (0 ∷ 0 ∷ 110 ∷ []) tidy) ∷
     []
 
+-- [Order 2] What each list cost, by its position in the question, beside the rows above: the starting list at the first position, between others and at the last; 16
+-- names; then the plain way, and refusals of questions that would have cost something
+unfoldable pub costing-rows : List (ℕ × Row)
+costing-rows =
+    (701, asking index 1 (1 ∷ 0 ∷ []) (room 7) (0 ∷ 0 ∷ 5 ∷ 9 ∷ 14 ∷ []) (0 ∷ 9 ∷ []) (0 ∷ 14 ∷ []) (5 ∷ 12 ∷ 16 ∷ 26 ∷ 30 ∷ 0 ∷ 0 ∷ [])) ∷
+    (702, asking index 1 (0 ∷ 1 ∷ 1 ∷ []) (room 7) (0 ∷ 0 ∷ 5 ∷ 10 ∷ 17 ∷ []) (9 ∷ 0 ∷ 1 ∷ []) (14 ∷ 0 ∷ 3 ∷ []) (5 ∷ 12 ∷ 16 ∷ 26 ∷ 30 ∷ 0 ∷ 0 ∷ [])) ∷
+    (703, asking index 1 (0 ∷ 1 ∷ 0 ∷ 1 ∷ 0 ∷ 1 ∷ 0 ∷ 1 ∷ 0 ∷ 1 ∷ 0 ∷ 1 ∷ 0 ∷ 1 ∷ 0 ∷ 1 ∷ []) (room 7) (0 ∷ 0 ∷ 5 ∷ 72 ∷ 112 ∷ []) (9 ∷ 0 ∷ 8 ∷ 1 ∷ 8 ∷ 1 ∷ 8 ∷ 1 ∷ 8 ∷ 1 ∷ 8 ∷ 1 ∷ 8 ∷ 1 ∷ 8 ∷ 1 ∷ []) (14 ∷ 0 ∷ 11 ∷ 3 ∷ 11 ∷ 3 ∷ 11 ∷ 3 ∷ 11 ∷ 3 ∷ 11 ∷ 3 ∷ 11 ∷ 3 ∷ 11 ∷ 3 ∷ []) (5 ∷ 12 ∷ 16 ∷ 26 ∷ 30 ∷ 0 ∷ 0 ∷ [])) ∷
+    (704, asking three 1 (2 ∷ 1 ∷ 0 ∷ []) (room 4) (0 ∷ 0 ∷ 2 ∷ 20 ∷ 6 ∷ []) (10 ∷ 10 ∷ 0 ∷ []) (4 ∷ 2 ∷ 0 ∷ []) (4 ∷ 16 ∷ 0 ∷ 0 ∷ [])) ∷
+    (705, asking index 0 (0 ∷ 1 ∷ 0 ∷ []) (room 7) (0 ∷ 0 ∷ 5 ∷ 0 ∷ 0 ∷ []) [] [] (5 ∷ 12 ∷ 16 ∷ 26 ∷ 30 ∷ 0 ∷ 0 ∷ [])) ∷
+    (706, asking index 1 (0 ∷ 1 ∷ 2 ∷ []) (room 7) (11 ∷ 2 ∷ 0 ∷ 0 ∷ 0 ∷ []) [] [] (room 7)) ∷
+    (707, asking index 1 (0 ∷ 1 ∷ 0 ∷ 1 ∷ 0 ∷ 1 ∷ 0 ∷ 1 ∷ 0 ∷ 1 ∷ 0 ∷ 1 ∷ 0 ∷ 1 ∷ 0 ∷ 1 ∷ 0 ∷ []) (room 7) (10 ∷ 0 ∷ 0 ∷ 0 ∷ 0 ∷ []) [] [] (room 7)) ∷
+    (708, asking index 2 (0 ∷ 1 ∷ []) (room 7) (14 ∷ 0 ∷ 0 ∷ 0 ∷ 0 ∷ []) [] [] (room 7)) ∷
+    (709, asking (with 54 0x81) 1 (0 ∷ 1 ∷ []) (room 7) (8 ∷ 0 ∷ 0 ∷ 0 ∷ 0 ∷ []) [] [] (room 7)) ∷
+    []
+
 -- The one table. Its groups are computed apart, so that the check of a faulty definition names the rows that fail
 unfoldable pub readings : List (ℕ × Row)
-readings = paper-rows ++ (looking-rows ++ (search-rows ++ (asking-rows ++ (writing-rows ++ (program-rows ++ (file-rows ++ (unused-rows ++ rubbish-rows)))))))
+readings = paper-rows ++ (looking-rows ++ (search-rows ++ (asking-rows ++ (writing-rows ++ (program-rows ++ (file-rows ++ (unused-rows ++ (rubbish-rows ++ costing-rows))))))))
 
 paper-hold : failing paper-rows ≡ []
 unfolding opened judged paper-rows
@@ -377,6 +392,10 @@ rubbish-hold : failing rubbish-rows ≡ []
 unfolding opened judged rubbish-rows
 rubbish-hold = refl
 
+costing-hold : failing costing-rows ≡ []
+unfolding opened judged costing-rows
+costing-hold = refl
+
 -- every row holds
 pub readings-hold : failing readings ≡ []
 unfolding readings
@@ -388,4 +407,5 @@ readings-hold =
     (joined writing-rows _ writing-hold
     (joined program-rows _ program-hold
     (joined file-rows _ file-hold
-    (joined unused-rows rubbish-rows unused-hold rubbish-hold)))))))
+    (joined unused-rows _ unused-hold
+    (joined rubbish-rows costing-rows rubbish-hold costing-hold))))))))

@@ -1,5 +1,5 @@
 -- A row of a table: what is asked of an operation, and its whole answer, every buffer included. A table holds when no row of it fails.
-use Prim.Native.Nat.{ℕ}
+use Prim.Native.Nat.{ℕ, _-_}
 use mathlib.Core.Path.{_≡_, refl, _∙_}
 use mathlib.Core.Bool.{Bool, true, false, _&&_}
 use mathlib.Core.Option.{Option}
@@ -25,8 +25,9 @@ use Rattle.paper.specs.Program.{program}
 pub data Row : Type 0 where
   -- an index: number place
   looking : (index answer : List ℕ) → Row
-  -- an index, the way, the names, the slice before: number place count looks codes, and the slice after
-  asking : (index : List ℕ) (way : ℕ) (names before answer after : List ℕ) → Row
+  -- an index, the way, the names, the slice before: number place count looks codes; then looks and codes by position, as many as are told, the rest
+  -- of the sixteen places being 0; and the slice after
+  asking : (index : List ℕ) (way : ℕ) (names before answer looks codes after : List ℕ) → Row
   -- an index, a name, a slot: number place yes
   testing : (index : List ℕ) (name slot : ℕ) (answer : List ℕ) → Row
   -- an index, a name: number place count
@@ -67,12 +68,17 @@ unfoldable pub tries : Listed → ℕ → List ℕ → List Try
 tries l p [] = []
 tries l p (x ∷ xs) = let t = tried l p x in t ∷ tries l (t .finger) xs
 
+-- sixteen places, of which the first are told
+abbrev pub sixteen : List ℕ → List ℕ
+sixteen xs = xs ++ replicate (16 - length xs) 0
+
 -- the definitions give the row's answer
 unfoldable pub holds : Row → Bool
 holds (looking index answer) = let v = look index in same (v .number ∷ v .place ∷ []) answer
-holds (asking index way names before answer after) =
+holds (asking index way names before answer looks codes after) =
     let a = askAnswer index way names (length before) in
-    same (a .number ∷ a .place ∷ a .count ∷ a .looks ∷ a .codes ∷ []) answer && same (askSlice index way names before) after
+    same (a .number ∷ a .place ∷ a .count ∷ a .looks ∷ a .codes ∷ []) answer && same (a .looks16) (sixteen looks) && same (a .codes16) (sixteen codes)
+    && same (askSlice index way names before) after
 holds (testing index name slot answer) = let a = testAnswer index name slot in same (a .number ∷ a .place ∷ bitOf (a .yes) ∷ []) answer
 holds (counting index name answer) = let a = countAnswer index name in same (a .number ∷ a .place ∷ a .count ∷ []) answer
 holds (lending index name answer bytes) =

@@ -8,7 +8,7 @@ use Rattle.paper.specs.Lists.{pick, total}
 use Rattle.paper.specs.Refusal.{accepted, ifAccepted, orElse, fault10, fault11, fault12, fault14}
 use Rattle.paper.specs.Index.{uOf, blockLength, kOf, recordOf}
 use Rattle.paper.specs.Look.{look}
-use Rattle.paper.specs.Question.{Charge, commonSlots, smallest, bySkips}
+use Rattle.paper.specs.Question.{Charge, commonSlots, smallest, places, bySkips}
 use Rattle.paper.specs.declared.Verdict.{Verdict}
 use Rattle.paper.specs.declared.Answer.{Answer}
 
@@ -34,14 +34,25 @@ answerSlots index names = commonSlots (uOf index) (blockLength index) (named ind
 unfoldable pub costs : List ℕ → ℕ → List ℕ → List Charge
 costs index way names = let skips = bySkips (uOf index) (blockLength index) (named index names) in pick (eqb way 1) skips []
 
--- the answer: how many slots there are, and the sums of what the positions cost
+-- the answer: how many slots there are, what the positions cost in sum, and what each of them cost. A refused question has no slots and is
+-- charged nothing
 unfoldable pub askAnswer : List ℕ → ℕ → List ℕ → ℕ → Answer
 askAnswer index way names room =
     let v = askFault index way names room in
     let count = length (answerSlots index names) in
-    let looks = total (map (λ (c : Charge). c .looks) (costs index way names)) in
-    let codes = total (map (λ (c : Charge). c .codes) (costs index way names)) in
-    record { number = v .number; place = v .place; count = ifAccepted v count 0; looks = ifAccepted v looks 0; codes = ifAccepted v codes 0 }
+    let cs = costs index way names in
+    let charged = ifAccepted v cs [] in
+    let looks : Charge → ℕ = λ c. c .looks in
+    let codes : Charge → ℕ = λ c. c .codes in
+    record {
+      number = v .number;
+      place = v .place;
+      count = ifAccepted v count 0;
+      looks = total (map looks charged);
+      codes = total (map codes charged);
+      looks16 = places looks charged;
+      codes16 = places codes charged;
+    }
 
 -- the slice afterwards: the answer at its front, and 0 at every place behind; a refusal leaves it as it was
 unfoldable pub askSlice : List ℕ → ℕ → List ℕ → List ℕ → List ℕ

@@ -8,12 +8,16 @@ pub struct Verdict {
 }
 
 // The answer to a question: `count` slots stand at the front of the slice; `looks` and `codes` are what the searches cost, summed over the names.
+// `looks16` and `codes16` say which list cost what: place i has that of the name at position i of the question as it was asked, counted from 0. The place of the
+// smallest list, which the search starts from, is 0, and so are those behind the names.
 pub struct Answer {
     pub number: u32,
     pub place: u32,
     pub count: u32,
     pub looks: u64,
     pub codes: u64,
+    pub looks16: [u64; 16],
+    pub codes16: [u64; 16],
 }
 
 pub struct Tested {

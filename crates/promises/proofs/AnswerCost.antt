@@ -5,12 +5,13 @@ use mathlib.Core.List.{List, [], _∷_, map}
 use native.Mathlib.Nat.{le-trans, mul-le-mul-left}
 use native.Mathlib.Omega.{arith}
 use lib.Dec.{eqb}
-use lib.ListN.{length, getD, drop, length-map, length-drop}
+use lib.ListN.{length, getD, drop, replicate, length-map, length-drop}
 use borrow.Author.Tests.{eq-eqb}
-use Rattle.paper.specs.Lists.{total}
+use Rattle.paper.specs.Lists.{total, upFrom}
+use Rattle.paper.specs.Refusal.{ifAccepted}
 use Rattle.paper.specs.Held.{listed, contents}
 use Rattle.paper.specs.Index.{uOf, blockLength}
-use Rattle.paper.specs.Question.{Charge, positions, inOrder, smallest}
+use Rattle.paper.specs.Question.{Charge, positions, inOrder, smallest, chargedAt, places}
 use Rattle.paper.specs.Ask.{named, askFault, costs, askAnswer}
 use Rattle.laws.proofs.Lists.{same-either}
 use Rattle.meaning.proofs.Walking.{AllSound, named-sound}
@@ -45,17 +46,35 @@ module _ (index : List ℕ) (way : ℕ) (names : List ℕ) (room : ℕ) (ok : as
   unfolding askAnswer
   answer-codes = simp (eq-eqb _ _ ok)
 
+-- what a question is charged: nothing where it is refused
+abbrev pub charged : List ℕ → ℕ → List ℕ → ℕ → List Charge
+charged index way names room = ifAccepted (askFault index way names room) (costs index way names) []
+
 -- PLAINLY
 module _ (index names : List ℕ) where
-  -- there are no looks, accepted or refused
-  pub plain-looks : (room : ℕ) → askAnswer index 0 names room .looks ≡ 0
-  unfolding askAnswer costs total
-  plain-looks room = same-either (eqb (askFault index 0 names room .number) 0) 0
+  plain-charged : (room : ℕ) → charged index 0 names room ≡ []
+  unfolding costs
+  plain-charged room = same-either (eqb (askFault index 0 names room .number) 0) []
 
-  -- nor codes
-  pub plain-codes : (room : ℕ) → askAnswer index 0 names room .codes ≡ 0
-  unfolding askAnswer costs total
-  plain-codes room = same-either (eqb (askFault index 0 names room .number) 0) 0
+  module _ (room : ℕ) where
+    -- there are no looks, accepted or refused
+    pub plain-looks : askAnswer index 0 names room .looks ≡ 0
+    unfolding askAnswer total
+    plain-looks = ap (λ (cs : List Charge). total (map (λ c. c .looks) cs)) (plain-charged room)
+
+    -- nor codes
+    pub plain-codes : askAnswer index 0 names room .codes ≡ 0
+    unfolding askAnswer total
+    plain-codes = ap (λ (cs : List Charge). total (map (λ c. c .codes) cs)) (plain-charged room)
+
+    -- and in no place either
+    pub plain-looks16 : askAnswer index 0 names room .looks16 ≡ replicate 16 0
+    unfolding askAnswer places chargedAt upFrom
+    plain-looks16 = ap (places (λ c. c .looks)) (plain-charged room)
+
+    pub plain-codes16 : askAnswer index 0 names room .codes16 ≡ replicate 16 0
+    unfolding askAnswer places chargedAt upFrom
+    plain-codes16 = ap (places (λ c. c .codes)) (plain-charged room)
 
   -- BY SKIPS: the positions charged
   pub skips-charged : map (λ (c : Charge). c .position) (costs index 1 names) ≡ drop 1 (positions (named index names))

@@ -94,7 +94,7 @@ module _ {u B : ℕ} {plans : List Plan} {bs : List ℕ} (h : Holding u B plans 
           | no n ↦
               let a = ask-refusal bs way names before n in
               let b = ask-refusal cs way names before (rw (← number-same) n) in
-              (a .0 ∙ sym (b .0), a .3 ∙ sym (b .3))
+              (a .0 ∙ sym (b .0), a .5 ∙ sym (b .5))
           | yes z ↦
               let below : (n : ℕ) → In n names → n < kOf bs
               = λ n i. rw (h .k-is) (each-in (λ n. n < length plans) names (ask-allowed h way names (length before) z .below) n i) in

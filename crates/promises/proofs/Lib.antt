@@ -1,4 +1,4 @@
--- The promises: Promises, Questions, Searching, Writing, Closing, EndToEnd and Lines state them; RecordRows, IndexRows, AskRows, WriteRows and CloseRows say
+-- The promises: Promises, Questions, Searching, Positions, Writing, Closing, EndToEnd and Lines state them; RecordRows, IndexRows, AskRows, WriteRows and CloseRows say
 -- the table's rows, EndToRuns the conditions from end to end, and LineTexts what a text spells; the other files prove.
 pub mod Promises
 pub mod RecordRows
@@ -44,6 +44,9 @@ pub mod WalkCost
 pub mod SeekCodes
 pub mod SkipCost
 pub mod AnswerCost
+pub mod Positions
+pub mod PlaceSums
+pub mod PlaceCosts
 pub mod SkipOrder
 pub mod LengthAnswers
 pub mod Writing

@@ -161,7 +161,7 @@ module _ (counts : List ℕ) where
   Rises xs = (a b : ℕ) → a < b → b < length xs → Before counts (getD xs a 0) (getD xs b 0)
 
   -- no two positions come each before the other
-  never : {X : Type 0} (i j : ℕ) → Before counts i j → Before counts j i → X
+  pub never : {X : Type 0} (i j : ℕ) → Before counts i j → Before counts j i → X
   never i j (fewer l) (fewer m) = absurd (omega arith)
   never i j (fewer l) (earlier e m) = absurd (omega arith)
   never i j (earlier d l) (fewer m) = absurd (omega arith)

@@ -8,7 +8,7 @@ use mathlib.Core.List.{List, [], _∷_}
 use Rattle.paper.specs.Ask.{MeetsAsk}
 use Rattle.paper.specs.Program.{program}
 use Rattle.paper.specs.declared.Answer.{Answer}
-use Rattle.paper.proofs.Rows.{Row, holds}
+use Rattle.paper.proofs.Rows.{Row, holds, sixteen}
 use Rattle.paper.proofs.Rows.Row.{asking, running}
 use Rattle.paper.proofs.Table.{table}
 use Rattle.paper.proofs.Readings.{readings}
@@ -25,19 +25,31 @@ abbrev pub Gives : List ℕ → ℕ → List ℕ → List ℕ → List ℕ → L
 Gives bs way names before numbers after =
     (answer : Answer) (left : List ℕ) → MeetsAsk bs way names before answer left → (numbersOf answer ≡ numbers) × (left ≡ after)
 
--- what a row of the tables says here: of a question, and of a text that the program is given
+-- whatever keeps the promise of this question has these looks and codes at its names' places, and 0 at all others of the sixteen
+abbrev pub Charges : List ℕ → ℕ → List ℕ → List ℕ → List ℕ → List ℕ → Type 0
+Charges bs way names before looks codes =
+    (answer : Answer) (left : List ℕ) → MeetsAsk bs way names before answer left → (answer .looks16 ≡ sixteen looks) × (answer .codes16 ≡ sixteen codes)
+
+-- what a row of the tables says here: of a question with all that it cost, and of a text that the program is given
 pub record Printed (row : Row) : Type 0 where
-  pub asked : (bs : List ℕ) (way : ℕ) (names before numbers after : List ℕ) → row ≡ asking bs way names before numbers after
-      → Gives bs way names before numbers after
+  pub asked : (bs : List ℕ) (way : ℕ) (names before numbers looks codes after : List ℕ) → row ≡ asking bs way names before numbers looks codes after
+      → Gives bs way names before numbers after × Charges bs way names before looks codes
   pub run : (file : Option (List ℕ)) (text output : List ℕ) → row ≡ running file text output → program file text ≡ output
 
 -- a question that holds
-question-printed : (bs : List ℕ) (way : ℕ) (names before numbers after : List ℕ) → holds (asking bs way names before numbers after) ≡ true
-    → Gives bs way names before numbers after
+question-printed : (bs : List ℕ) (way : ℕ) (names before numbers looks codes after : List ℕ)
+    → holds (asking bs way names before numbers looks codes after) ≡ true → Gives bs way names before numbers after × Charges bs way names before looks codes
 unfolding holds
-question-printed bs way names before numbers after h =
+question-printed bs way names before numbers looks codes after h =
     let p = and-eq-true-iff _ _ .0 h in
-    λ answer left m. (ap numbersOf (m .answers) ∙ same-true _ numbers (p .0), m .leaves ∙ same-true _ after (p .1))
+    let q = and-eq-true-iff _ _ .0 (p .0) in
+    let r = and-eq-true-iff _ _ .0 (q .0) in (
+      λ answer left m. (ap numbersOf (m .answers) ∙ same-true _ numbers (r .0), m .leaves ∙ same-true _ after (p .1)),
+      λ answer left m. (
+        ap (λ (a : Answer). a .looks16) (m .answers) ∙ same-true _ (sixteen looks) (r .1),
+        ap (λ (a : Answer). a .codes16) (m .answers) ∙ same-true _ (sixteen codes) (q .1),
+      ),
+    )
 
 -- a text that holds
 text-printed : (file : Option (List ℕ)) (text output : List ℕ) → holds (running file text output) ≡ true → program file text ≡ output
@@ -47,7 +59,7 @@ text-printed file text output h = same-true _ output h
 row-printed : (row : Row) → holds row ≡ true → Printed row
 row-printed row h =
     record {
-      asked = λ bs way names before numbers after e. question-printed bs way names before numbers after (rw e at h);
+      asked = λ bs way names before numbers looks codes after e. question-printed bs way names before numbers looks codes after (rw e at h);
       run = λ file text output e. text-printed file text output (rw e at h);
     }
 

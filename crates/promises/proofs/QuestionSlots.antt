@@ -9,10 +9,10 @@ use native.Mathlib.Omega.{arith}
 use lib.ListN.{length, getD, replicate, take, drop, length-append, length-map, length-replicate, getD-replicate, List·getD-append}
 use lib.Seq.{getD-append-add, take-append-seam}
 use borrow.Author.Tests.{eq-eqb, ne-eqb}
-use Rattle.paper.specs.Lists.{has}
+use Rattle.paper.specs.Lists.{has, total, upFrom}
 use Rattle.paper.specs.Held.{contents}
 use Rattle.paper.specs.Index.{uOf, blockLength, held}
-use Rattle.paper.specs.Question.{inAll, commonSlots, inOrder}
+use Rattle.paper.specs.Question.{inAll, commonSlots, inOrder, chargedAt, places}
 use Rattle.paper.specs.Ask.{named, roomNeeded, askFault, answerSlots, askAnswer, askSlice, MeetsAsk}
 use Rattle.paper.specs.declared.Verdict.{Verdict}
 use Rattle.paper.specs.declared.Answer.{Answer}
@@ -167,9 +167,10 @@ module _ (bs : List ℕ) (way : ℕ) (names before : List ℕ) where
   abbrev Nothing : Type 0
   Nothing =
       (askAnswer bs way names (length before) .count ≡ 0) × (askAnswer bs way names (length before) .looks ≡ 0)
-      × (askAnswer bs way names (length before) .codes ≡ 0) × (askSlice bs way names before ≡ before)
+      × (askAnswer bs way names (length before) .codes ≡ 0) × (askAnswer bs way names (length before) .looks16 ≡ replicate 16 0)
+      × (askAnswer bs way names (length before) .codes16 ≡ replicate 16 0) × (askSlice bs way names before ≡ before)
 
   -- nothing is answered and nothing is written
   pub ask-refusal : ¬ (askAnswer bs way names (length before) .number ≡ 0) → Nothing
-  unfolding askAnswer askSlice
-  ask-refusal n = rw (ne-eqb (askFault bs way names (length before) .number) 0 n) (refl, refl, refl, refl)
+  unfolding askAnswer askSlice total places chargedAt upFrom
+  ask-refusal n = rw (ne-eqb (askFault bs way names (length before) .number) 0 n) (refl, refl, refl, refl, refl, refl)

@@ -11,7 +11,7 @@ use mathlib.Core.Logic.{_↔_}
 use mathlib.Core.Option.{some}
 use mathlib.Core.List.{List, [], _∷_, _++_, map, flatten}
 use native.Mathlib.Omega.{arith}
-use lib.ListN.{length, getD, take}
+use lib.ListN.{length, getD, take, replicate}
 use Rattle.paper.specs.Lists.{has, upFrom}
 use Rattle.paper.specs.Index.{uOf, blockLength, kOf, recordOf, held}
 use Rattle.paper.specs.Look.{look}
@@ -213,12 +213,13 @@ ask-depends-length bs way names before slice e =
 
 -- REFUSAL
 
--- A refused question has no slots, no looks and no codes, and leaves the slice as it was.
+-- A refused question has no slots, no looks and no codes, in sum and in each of the sixteen places, and leaves the slice as it was.
 abbrev pub AskRefusal : Type 0
 AskRefusal =
     OfQuestions λ bs way names before.
     ¬ (answerTo bs way names before .number ≡ 0)
     → (answerTo bs way names before .count ≡ 0) × (answerTo bs way names before .looks ≡ 0) × (answerTo bs way names before .codes ≡ 0)
+    × (answerTo bs way names before .looks16 ≡ replicate 16 0) × (answerTo bs way names before .codes16 ≡ replicate 16 0)
     × (askSlice bs way names before ≡ before)
 
 pub ask-refusal : AskRefusal
@@ -272,14 +273,14 @@ PaperAnswers =
 pub paper-answers : PaperAnswers
 unfolding slots1 table readings paper-rows looking-rows search-rows asking-rows labelled
 paper-answers = (
-  examples.in-table 0 .asked _ _ _ _ _ _ refl,
-  examples.in-table 2 .asked _ _ _ _ _ _ refl,
-  examples.in-table 4 .asked _ _ _ _ _ _ refl,
-  examples.in-table 5 .asked _ _ _ _ _ _ refl,
-  examples.in-table 6 .asked _ _ _ _ _ _ refl,
-  examples.in-table 7 .asked _ _ _ _ _ _ refl,
-  examples.in-table 15 .asked _ _ _ _ _ _ refl,
-  examples.in-readings 306 .asked _ _ _ _ _ _ refl,
+  examples.in-table 0 .asked _ _ _ _ _ _ _ _ refl .0,
+  examples.in-table 2 .asked _ _ _ _ _ _ _ _ refl .0,
+  examples.in-table 4 .asked _ _ _ _ _ _ _ _ refl .0,
+  examples.in-table 5 .asked _ _ _ _ _ _ _ _ refl .0,
+  examples.in-table 6 .asked _ _ _ _ _ _ _ _ refl .0,
+  examples.in-table 7 .asked _ _ _ _ _ _ _ _ refl .0,
+  examples.in-table 15 .asked _ _ _ _ _ _ _ _ refl .0,
+  examples.in-readings 306 .asked _ _ _ _ _ _ _ _ refl .0,
 )
 
 -- an index of these records
@@ -311,10 +312,10 @@ OtherAnswers =
 pub other-answers : OtherAnswers
 unfolding readings paper-rows looking-rows search-rows asking-rows labelled
 other-answers = (
-  examples.in-readings 308 .asked _ _ _ _ _ _ refl,
-  examples.in-readings 309 .asked _ _ _ _ _ _ refl,
-  examples.in-readings 311 .asked _ _ _ _ _ _ refl,
-  examples.in-readings 312 .asked _ _ _ _ _ _ refl,
+  examples.in-readings 308 .asked _ _ _ _ _ _ _ _ refl .0,
+  examples.in-readings 309 .asked _ _ _ _ _ _ _ _ refl .0,
+  examples.in-readings 311 .asked _ _ _ _ _ _ _ _ refl .0,
+  examples.in-readings 312 .asked _ _ _ _ _ _ _ _ refl .0,
 )
 
 -- Given `1 0 1` and the paper's index, the program prints `0 0 9 14` and then the five slots, a line each.

@@ -1,14 +1,14 @@
 -- WHAT IS PROMISED of the search by skips and of its cost. Every statement has a name and its meaning in plain words; the line behind it is its
 -- proof, which cites other files. Beside this file a reader needs, of crate paper, the search itself and what is searched (Search, Held,
 -- Walk, Question, Ask), and here the words that the statements are put in: SearchDoubling (doublings, lastGood, sees, GoodSoFar),
--- SearchLooks (Agree, Once), SearchFinds (entryAt), BinaryDigits (digits), WalkCost (searches, searchOf, lookedAt, walkedOver), SeekCodes (below,
+-- SearchLooks (Agree, Once), SearchFinds (entryAt), BinaryDigits (digits), WalkCost (searches, searchOf, lookedAt, walkedOver, allowance, allowed), SeekCodes (below,
 -- blockOf, toRead, readOver), SkipCost (visits, searchesIn, seenIn, readIn, AtMost), AnswerCost (looksCharged, codesCharged, visitsOf), and for the
 -- order of the lists QuestionAlike (InOrder) and SkipOrder (sizes, visitsIn).
 use Prim.Native.Nat.{ℕ, suc, _+_, _-_, _*_, _^_, _≤_, _<_, min}
 use mathlib.Core.Path.{_≡_}
 use mathlib.Core.Logic.{_⊎_}
 use mathlib.Core.List.{List, [], _∷_, map}
-use lib.ListN.{length, drop}
+use lib.ListN.{length, drop, replicate}
 use Rattle.paper.specs.Lists.{has, keep, total}
 use Rattle.paper.specs.Record.{recordFault}
 use Rattle.paper.specs.Held.{Listed, listed, contents}
@@ -29,7 +29,18 @@ use Rattle.promises.proofs.SearchFinds as finds
 use Rattle.promises.proofs.SearchFinds.{entryAt}
 use Rattle.promises.proofs.BinaryDigits.{digits, digits-none, digits-below, digits-from}
 use Rattle.promises.proofs.SearchCost.{search-cost}
-use Rattle.promises.proofs.WalkCost.{searches, searchOf, lookedAt, walkedOver, try-looks, walk-seen, walk-looks, walk-looks-all}
+use Rattle.promises.proofs.WalkCost.{
+  searches,
+  searchOf,
+  lookedAt,
+  walkedOver,
+  allowed,
+  try-looks,
+  walk-seen,
+  walk-looks,
+  walk-looks-all,
+  walk-allowed,
+}
 use Rattle.promises.proofs.SeekCodes.{below, blockOf, seek-codes, try-codes, try-few, walk-codes}
 use Rattle.promises.proofs.SkipCost.{searchesIn, seenIn, readIn, AtMost}
 use Rattle.promises.proofs.AnswerCost.{looksCharged, codesCharged, visitsOf}
@@ -226,6 +237,13 @@ WalkLooksFrom = (l : Listed) (xs : List ℕ) (p : ℕ) → p ≤ l .m → walkLi
 pub walk-looks-from : WalkLooksFrom
 walk-looks-from = walk-looks
 
+-- And no walk costs more than its searches may cost one by one: two for each binary digit of the blocks that a search moves on by, one where it stays.
+abbrev pub WalkLooksDigits : Type 0
+WalkLooksDigits = (l : Listed) (p : ℕ) (xs : List ℕ) → walkList l p xs .looks ≤ allowed l p xs
+
+pub walk-looks-digits : WalkLooksDigits
+walk-looks-digits = walk-allowed
+
 -- In a sound list they cost at most B − 1 codes for each search.
 abbrev pub WalkCodesFew : Type 0
 WalkCodesFew = OfSound λ u B r. (xs : List ℕ) (p : ℕ) → walkList (listed u B r) p xs .codes ≤ (B - 1) * searches (listed u B r) xs
@@ -323,11 +341,22 @@ AnswerCostsPlain =
 pub answer-costs-plain : AnswerCostsPlain
 answer-costs-plain index names room ok = (answer.looks-plain index names room ok, answer.codes-plain index names room ok)
 
--- Plainly nothing is charged, and there are no looks and no codes, accepted or refused.
+-- Plainly nothing is charged, and there are no looks and no codes, in sum and in each of the sixteen places, accepted or refused.
 abbrev pub PlainFree : Type 0
 PlainFree =
     (index names : List ℕ)
-    → (costs index 0 names ≡ []) × ((room : ℕ) → (askAnswer index 0 names room .looks ≡ 0) × (askAnswer index 0 names room .codes ≡ 0))
+    → (costs index 0 names ≡ [])
+    × ((room : ℕ)
+    → (askAnswer index 0 names room .looks ≡ 0) × (askAnswer index 0 names room .codes ≡ 0)
+    × (askAnswer index 0 names room .looks16 ≡ replicate 16 0) × (askAnswer index 0 names room .codes16 ≡ replicate 16 0))
 
 pub plain-free : PlainFree
-plain-free index names = (plain-costs index names, λ room. (answer.plain-looks index names room, answer.plain-codes index names room))
+plain-free index names = (
+  plain-costs index names,
+  λ room. (
+    answer.plain-looks index names room,
+    answer.plain-codes index names room,
+    answer.plain-looks16 index names room,
+    answer.plain-codes16 index names room,
+  ),
+)

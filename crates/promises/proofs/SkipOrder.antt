@@ -27,7 +27,7 @@ visitsIn index names [] = []
 visitsIn index names (o ∷ os) =
     visits (uOf index) (blockLength index) (contents (uOf index) (blockLength index) (getD (named index names) o [])) (map (λ i. getD (named index names) i []) os)
 
-sizes-counts : (index : List ℕ) → look index .number ≡ 0 → (names : List ℕ) → ((i : ℕ) → i < length names → getD names i 0 < kOf index)
+pub sizes-counts : (index : List ℕ) → look index .number ≡ 0 → (names : List ℕ) → ((i : ℕ) → i < length names → getD names i 0 < kOf index)
     → sizes index names ≡ map countOf (named index names)
 sizes-counts index ok [] b = refl
 sizes-counts index ok (n ∷ names) b = rw (lists.list-count index ok n (b 0 (omega arith)), sizes-counts index ok names (λ i l. b (suc i) (omega arith)))

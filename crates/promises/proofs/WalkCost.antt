@@ -2,19 +2,20 @@
 use Prim.Native.Nat.{ℕ, _+_, _-_, _*_, _≤_, _<_}
 use mathlib.Core.Path.{_≡_, refl, ap}
 use mathlib.Core.List.{List, [], _∷_, _++_}
-use native.Mathlib.Decide.{decLe}
+use native.Mathlib.Decide.{decLe, ℕ-discrete}
 use native.Mathlib.Omega.{arith}
-use lib.Dec.{ltb, leb}
+use lib.Dec.{ltb, leb, eqb}
 use lib.ListN.{length, length-append}
-use borrow.Author.Tests.{lt-ltb, le-ltb, le-leb, lt-leb}
+use borrow.Author.Tests.{lt-ltb, le-ltb, le-leb, lt-leb, eq-eqb, ne-eqb}
 use Rattle.paper.specs.Lists.{pick, keep}
 use Rattle.paper.specs.Held.{Listed, entryOf}
-use Rattle.paper.specs.Search.{Sought, searched}
+use Rattle.paper.specs.Search.{Sought, looksOf, searched}
 use Rattle.paper.specs.Walk.{Try, tried, walkList}
 use Rattle.laws.proofs.Lists.{keep-pass, keep-fail}
 use Rattle.laws.proofs.Searches.{search-from, search-below}
 use Rattle.meaning.proofs.Trying.{try-bit, try-search}
-use Rattle.promises.proofs.SearchCost.{search-linear}
+use Rattle.promises.proofs.SearchCost.{search-cost, search-linear}
+use Rattle.promises.proofs.BinaryDigits.{digits}
 
 -- how many of the candidates xs a list is searched for: those above its cut
 abbrev pub searches : Listed → List ℕ → ℕ
@@ -51,6 +52,39 @@ walk-seen l p (x ∷ xs) =
     let e = length-append (lookedAt l p x) rest in
     let h = try-looks l p x in
     omega arith
+
+-- what a search may cost that moves the finger on by d: two looks for each binary digit of d, one where d is 0
+abbrev pub allowance : ℕ → ℕ
+allowance d = pick (eqb d 0) 1 (2 * digits d)
+
+-- and what the searches of a walk may cost together
+unfoldable pub allowed : Listed → ℕ → List ℕ → ℕ
+allowed l p [] = 0
+allowed l p (x ∷ xs) = let search = allowance (searchOf l p x .j - p) in pick (leb x (l .cut)) 0 search + allowed l (tried l p x .finger) xs
+
+-- no search costs more
+search-allowed : (l : Listed) (p x : ℕ) → looksOf (searchOf l p x) ≤ allowance (searchOf l p x .j - p)
+search-allowed l p x =
+    let c = search-cost (entryOf (l .cut) (l .entries)) x (l .m) p in
+    elim (ℕ-discrete (searchOf l p x .j - p) 0) [
+      | yes e ↦ rw (eq-eqb _ _ e) (c .stayed e)
+      | no n ↦ rw (ne-eqb _ _ n) (c .moved (omega arith))
+    ]
+
+-- and no walk
+pub walk-allowed : (l : Listed) (p : ℕ) (xs : List ℕ) → walkList l p xs .looks ≤ allowed l p xs
+unfolding walkList allowed
+walk-allowed l p [] = omega arith
+walk-allowed l p (x ∷ xs) =
+    let rest = walk-allowed l (tried l p x .finger) xs in
+    elim (decLe x (l .cut)) [
+      | yes a ↦ let z : tried l p x .looks ≡ 0 = rw (try-bit l p x a) in rw (le-leb x (l .cut) a) (omega arith)
+      | no a ↦
+          let h : l .cut < x = omega arith in
+          let z : tried l p x .looks ≡ looksOf (searchOf l p x) = rw (try-search l p x h) in
+          let c = search-allowed l p x in
+          rw (lt-leb x (l .cut) h) (omega arith)
+    ]
 
 -- The searches, candidate after candidate
 module _ (l : Listed) (x : ℕ) (xs : List ℕ) where

@@ -2,25 +2,28 @@
 use Prim.Native.Nat.{ℕ, zero, suc, _+_, _-_, _*_, _≤_, _<_}
 use mathlib.Core.Path.{_≡_, refl, sym, ap, _∙_}
 use mathlib.Core.List.{List, [], _∷_, _++_, map}
+use native.Mathlib.Decide.{ℕ-discrete}
+use native.Mathlib.Nat.{le-refl}
 use native.Mathlib.Numerals.{add-one}
 use native.Mathlib.Omega.{arith}
-use lib.ListN.{length, getD, take, drop, replicate, drop-of-length-le, length-take}
-use lib.Seq.{drop-cons, getD-take, length-take-le}
-use Rattle.paper.specs.Lists.{has, keep, total}
+use lib.ListN.{length, getD, take, drop, replicate, set, drop-of-length-le, length-take, length-set, getD-replicate}
+use lib.Seq.{drop-cons, getD-take, length-take-le, getD-set-same, getD-set-other}
+use Rattle.paper.specs.Lists.{has, keep, total, upFrom}
 use Rattle.paper.specs.Record.{recordFault}
 use Rattle.paper.specs.Held.{contents, countOf, listed}
 use Rattle.paper.specs.Index.{uOf, blockLength, kOf, recordOf}
 use Rattle.paper.specs.Walk.{Walk, walkList, walks}
 use Rattle.paper.specs.Question as question
-use Rattle.paper.specs.Question.{Charge, positions, inOrder, smallest, fromSmallest}
+use Rattle.paper.specs.Question.{Charge, positions, inOrder, smallest, fromSmallest, chargedAt, places, charges, bySkips}
 use Rattle.paper.specs.Ask.{named, answerSlots, costs}
 use Rattle.laws.proofs.Frames.{Accepted, looked}
 use Rattle.laws.proofs.Questions.{named-many, counts-many, named-at, count-at}
+use Rattle.laws.proofs.Places.{charged-none, charged-here, charged-there, places-are}
 use Rattle.meaning.proofs.Rising.{Ascends, rise-length}
 use Rattle.meaning.proofs.Sound.{contents-rise}
 use Rattle.meaning.proofs.Orders.{order-length}
 use Rattle.meaning.proofs.Walking.{AllSound, passed, keep-rise, walk-keeps, named-sound}
-use Rattle.meaning.proofs.Common.{position-inside, ordered-length, ordered-at, ordered-sound, from-smallest}
+use Rattle.meaning.proofs.Common.{position-inside, position-once, ordered-length, ordered-at, ordered-sound, from-smallest}
 use Rattle.meaning.proofs.Charging.{charge, skips-charged, plain-costs}
 use Rattle.record.specs.Front.{Front, Candidates}
 use Rattle.skips.specs.declared.Walked.{Walked}
@@ -28,7 +31,7 @@ use Rattle.skips.specs.Walks.{Walks}
 use Rattle.plain.specs.Sifted.{plainly}
 use Rattle.plain.proofs.Meant.{plainly-keeps}
 use Rattle.names.specs.Asked.{Asked}
-use Rattle.question.specs.Answered.{Ordered, Gathered, Costs, Answers}
+use Rattle.question.specs.Answered.{Ordered, Gathered, Answers}
 
 -- a name, by its place in the order
 pub named-told : (names order : List ℕ) (r at : ℕ) → at ≡ getD order r 0 → getD names at 0 ≡ getD names (getD order r 0) 0
@@ -77,9 +80,22 @@ module _ (index names : List ℕ) where
   abbrev walksLeft : List ℕ → ℕ → ℕ → List Walk
   walksLeft s n r = walks (map (listed u B) (drop r (inOrder rs))) (take n s)
 
-  -- by skips: and `looks` and `codes` are what the lists so far cost
-  pub record Costing (s : List ℕ) (n r looks codes : ℕ) : Type 0 where
+  -- and to which positions they are charged
+  abbrev chargesLeft : List ℕ → ℕ → ℕ → List Charge
+  chargesLeft s n r = charges (drop r (positions rs)) (walksLeft s n r)
+
+  -- sixteen places l, of looks or of codes as f tells: what stands in a place and what is charged there by the lists to come is all; the places of
+  -- the lists to come are empty
+  pub record Placing (f : Charge → ℕ) (l s : List ℕ) (n r : ℕ) : Type 0 where
+    pub sixteen : length l ≡ 16
+    pub all : (i : ℕ) → i < 16 → getD l i 0 + chargedAt f (chargesLeft s n r) i ≡ chargedAt f (costs index 1 names) i
+    pub empty : (j : ℕ) → r ≤ j → j < length names → getD l (getD (positions rs) j 0) 0 ≡ 0
+
+  -- by skips: and `looks` and `codes` are what the lists so far cost, and stand in their places
+  pub record Costing (s : List ℕ) (n r looks codes : ℕ) (looks16 codes16 : List ℕ) : Type 0 where
     pub left : Left s n r
+    pub looks-placed : Placing (λ c. c .looks) looks16 s n r
+    pub codes-placed : Placing (λ c. c .codes) codes16 s n r
     pub all-looks : looks + total (map (λ (w : Walk). w .looks) (walksLeft s n r)) ≡ total (map (λ (c : Charge). c .looks) (costs index 1 names))
     pub all-codes : codes + total (map (λ (w : Walk). w .codes) (walksLeft s n r)) ≡ total (map (λ (c : Charge). c .codes) (costs index 1 names))
     pub few-looks : looks ≤ 4503599627370496 * r
@@ -117,8 +133,23 @@ module _ (index names : List ℕ) where
             let e = as-many in
             rw is (sym (named-at index names (getD order r 0) position-below) ∙ rw at-is (sym (ordered-at rs r (omega arith))))
 
+      -- the position itself: that of a name, and one of sixteen; the name there is one of the lists
+      module _ (at : ℕ) (is : at ≡ getD order r 0) where
+        pub at-below : at < length names
+        at-below = rw is position-below
+
+        pub at-sixteen : at < 16
+        at-sixteen = let b = at-below in let f = a .few in omega arith
+
+        pub at-known : getD names at 0 < kOf index
+        at-known = name-below (getD names at 0) (named-told names order r at is)
+
     positions-many : length (positions rs) ≡ length names
     positions-many = order-length (map countOf rs) ∙ counts-many index names
+
+    -- every position is one of sixteen
+    inside : (j : ℕ) → j < length names → getD (positions rs) j 0 < 16
+    inside j l = let e = as-many in let p = position-inside rs j (omega arith) in let f = a .few in omega arith
 
     ordered-many : length (inOrder rs) ≡ length names
     ordered-many = ordered-length rs ∙ as-many
@@ -154,6 +185,10 @@ module _ (index names : List ℕ) where
       -- not more than the largest u
       pub left-few : n ≤ 1048576
       left-few = let f = few-slots u n s (h .few) (h .rise) in let m = accepts .frame .most-u in omega arith
+
+      -- and so their number fits 32 bits
+      pub left-told : n < 4294967296
+      left-told = let f = left-few in omega arith
 
       -- no list is left: they are the answer
       pub left-end : length names ≤ r → Front (answerSlots index names) n s
@@ -199,53 +234,128 @@ module _ (index names : List ℕ) where
       unfolding costs
       sum-first f h same = ap total (rw (g .are) (sym (skips-charged u B rs f h same ∙ ap (map h) (from-first (inOrder rs)))))
 
-      -- nothing is spent before the first walk
-      pub cost-begin : Costing s n 1 0 0
+      all-to-come : chargesLeft s n 1 ≡ costs index 1 names
+      unfolding costs bySkips
+      all-to-come = rw (g .are) (ap (charges (drop 1 (positions rs))) (sym (from-first (inOrder rs))))
+
+      -- nothing stands in a place before the first walk
+      place-begin : (f : Charge → ℕ) → Placing f (replicate 16 0) s n 1
+      place-begin f =
+          record {
+            sixteen = refl;
+            all = λ i l. let z : _≡_ {A = ℕ} (getD (replicate 16 0) i 0) 0 = getD-replicate 16 i 0 0 l in rw (z, all-to-come) (omega arith);
+            empty = λ j l h. let p = inside j h in getD-replicate 16 (getD (positions rs) j 0) 0 0 p;
+          }
+
+      -- nothing is spent before it
+      pub cost-begin : Costing s n 1 0 0 (replicate 16 0) (replicate 16 0)
       cost-begin =
           let p = sum-first (λ (c : Charge). c .looks) (λ (w : Walk). w .looks) (λ i w. refl) in
           let q = sum-first (λ (c : Charge). c .codes) (λ (w : Walk). w .codes) (λ i w. refl) in
-          record { left = left-begin s n g; all-looks = omega arith; all-codes = omega arith; few-looks = omega arith; few-codes = omega arith }
+          record {
+            left = left-begin s n g;
+            looks-placed = place-begin (λ c. c .looks);
+            codes-placed = place-begin (λ c. c .codes);
+            all-looks = omega arith;
+            all-codes = omega arith;
+            few-looks = omega arith;
+            few-codes = omega arith;
+          }
 
-    module _ (s : List ℕ) (n r looks codes : ℕ) (h : Costing s n r looks codes) where
+    module _ (s : List ℕ) (n r looks codes : ℕ) (looks16 codes16 : List ℕ) (h : Costing s n r looks codes looks16 codes16) where
       none-left : length names ≤ r → walksLeft s n r ≡ []
       unfolding walks
       none-left l = rw (all-gone r l)
 
-      cost-looks : length names ≤ r → looks ≡ total (map (λ (c : Charge). c .looks) (costs index 1 names))
+      pub cost-looks : length names ≤ r → looks ≡ total (map (λ (c : Charge). c .looks) (costs index 1 names))
       unfolding total
       cost-looks l = let e = rw (none-left l) at (h .all-looks) in omega arith
 
-      cost-codes : length names ≤ r → codes ≡ total (map (λ (c : Charge). c .codes) (costs index 1 names))
+      pub cost-codes : length names ≤ r → codes ≡ total (map (λ (c : Charge). c .codes) (costs index 1 names))
       unfolding total
       cost-codes l = let e = rw (none-left l) at (h .all-codes) in omega arith
 
-      -- no list is left: all is counted
-      pub costed : length names ≤ r → Costs index names (record { count = n; looks = looks; codes = codes })
-      costed l = record { looks = cost-looks l; codes = cost-codes l }
+      no-charge : length names ≤ r → chargesLeft s n r ≡ []
+      unfolding charges
+      no-charge l = let f : length (positions rs) ≤ r = let e = positions-many in omega arith in rw (drop-of-length-le (positions rs) f)
 
-      module _ (order : List ℕ) (o : Ordered index names order) (l : r < length names) (name : ℕ) (is : name ≡ getD names (getD order r 0) 0) where
-        -- a walk
-        pub cost-turn : (t : List ℕ) (w : Walked) → Walks (walkList (listed u B (recordOf index name)) 0 (take n s)) w t
-            → Costing t (w .count) (r + 1) (looks + w .looks) (codes + w .codes)
-        unfolding total walks
-        cost-turn t w f =
-            let k = walked s n r (h .left) order o l name is in
-            let x = next s n r (h .left) order o l name is in
-            let p = rw x at (h .all-looks) in
-            let q = rw x at (h .all-codes) in
-            let a₁ = f .looks in
-            let a₂ = f .codes in
-            let b₁ = f .few-looks in
-            let b₂ = f .few-codes in
-            let c₁ = h .few-looks in
-            let c₂ = h .few-codes in
-            record {
-              left = left-turn s n r (h .left) order o l name is t (w .count) (rw (← k) (f .slots));
-              all-looks = rw (f .slots .are) (omega arith);
-              all-codes = rw (f .slots .are) (omega arith);
-              few-looks = omega arith;
-              few-codes = omega arith;
-            }
+      -- no list is left: each place has what its position is charged
+      placed-all : (f : Charge → ℕ) (l : List ℕ) → Placing f l s n r → length names ≤ r → l ≡ places f (costs index 1 names)
+      placed-all f l p e =
+          places-are f (costs index 1 names) l (p .sixteen)
+          (λ i k. let a = p .all i k in let z : chargedAt f (chargesLeft s n r) i ≡ 0 = rw (no-charge e) (charged-none f i) in omega arith)
+
+      module _ (order : List ℕ) (o : Ordered index names order) (l : r < length names) (at : ℕ) (is : at ≡ getD order r 0) where
+        abbrev name : ℕ
+        name = getD names at 0
+
+        told : name ≡ getD names (getD order r 0) 0
+        told = named-told names order r at is
+
+        placed : at ≡ getD (positions rs) r 0
+        placed = is ∙ at-is order o r l
+
+        module _ (t : List ℕ) (w : Walked) (f : Walks (walkList (listed u B (recordOf index name)) 0 (take n s)) w t) where
+          abbrev walk : Walk
+          walk = walkList (listed u B (recordOf index name)) 0 (take n s)
+
+          -- the list that comes next is charged, and then those behind it
+          next-charged : chargesLeft s n r ≡ charge at walk ∷ chargesLeft t (w .count) (r + 1)
+          unfolding walks charges
+          next-charged =
+              let e = positions-many in
+              let d : drop r (positions rs) ≡ at ∷ drop (r + 1) (positions rs) = rw (placed, add-one r) (drop-cons (positions rs) r 0 (omega arith)) in
+              rw (d, next s n r (h .left) order o l name told, f .slots .are)
+
+          -- what it costs is put to its place
+          place-turn : (g : Charge → ℕ) (v : ℕ) (p : List ℕ) → g (charge at walk) ≡ v → Placing g p s n r → Placing g (set p at v) t (w .count) (r + 1)
+          place-turn g v p e q =
+              record {
+                sixteen = length-set p at v ∙ q .sixteen;
+                all = λ i k. one i k (ℕ-discrete i at);
+                empty = λ j k m. getD-set-other p at _ v 0 (away j k m) ∙ q .empty j (omega arith) m;
+              }
+            where
+              away : (j : ℕ) → r + 1 ≤ j → j < length names → ¬ (getD (positions rs) j 0 ≡ at)
+              away j k m z = let e = as-many in position-once rs r j (omega arith) (omega arith) (sym (z ∙ placed))
+
+              one : (i : ℕ) → i < 16 → Dec (i ≡ at)
+                  → getD (set p at v) i 0 + chargedAt g (chargesLeft t (w .count) (r + 1)) i ≡ chargedAt g (costs index 1 names) i
+              one i k (yes y) =
+                  let a = rw next-charged at (q .all i k) in
+                  let c = charged-here g (charge at walk) (chargesLeft t (w .count) (r + 1)) i (sym y) in
+                  let z : getD p i 0 ≡ 0 = rw (y, placed) (q .empty r (le-refl r) l) in
+                  let b : getD (set p at v) i 0 ≡ v = rw (← y) (getD-set-same p i v 0 (omega (arith, q .sixteen))) in
+                  omega arith
+              one i k (no y) =
+                  let a = rw next-charged at (q .all i k) in
+                  let c = charged-there g (charge at walk) (chargesLeft t (w .count) (r + 1)) i (λ z. y (sym z)) in
+                  let b = getD-set-other p at i v 0 y in
+                  omega arith
+
+          -- a walk
+          pub cost-turn : Costing t (w .count) (r + 1) (looks + w .looks) (codes + w .codes) (set looks16 at (w .looks)) (set codes16 at (w .codes))
+          unfolding total walks
+          cost-turn =
+              let k = walked s n r (h .left) order o l name told in
+              let x = next s n r (h .left) order o l name told in
+              let p = rw x at (h .all-looks) in
+              let q = rw x at (h .all-codes) in
+              let a₁ = f .looks in
+              let a₂ = f .codes in
+              let b₁ = f .few-looks in
+              let b₂ = f .few-codes in
+              let c₁ = h .few-looks in
+              let c₂ = h .few-codes in
+              record {
+                left = left-turn s n r (h .left) order o l name told t (w .count) (rw (← k) (f .slots));
+                looks-placed = place-turn (λ c. c .looks) (w .looks) looks16 (sym a₁) (h .looks-placed);
+                codes-placed = place-turn (λ c. c .codes) (w .codes) codes16 (sym a₂) (h .codes-placed);
+                all-looks = rw (f .slots .are) (omega arith);
+                all-codes = rw (f .slots .are) (omega arith);
+                few-looks = omega arith;
+                few-codes = omega arith;
+              }
 
     -- BEFORE THE WALK: the order and the room
     module _ (order : List ℕ) (o : Ordered index names order) where
@@ -304,12 +414,38 @@ module _ (index names : List ℕ) (n : ℕ) (s : List ℕ) (f : Front (answerSlo
   slots-are : after ≡ answerSlots index names ++ replicate (length before - length (answerSlots index names)) 0
   slots-are = is ∙ rw (f .are, long, count-is)
 
-  -- by skips
-  pub answered : (w : Walked) → w .count ≡ n → Costs index names w
-      → Answers index 1 names before (record { number = 0; place = 0; count = n; looks = w .looks; codes = w .codes }) after
-  answered w m c = record { number = refl; place = refl; count = count-is; looks = c .looks; codes = c .codes; slots = slots-are }
-
   -- plainly: nothing is spent
-  pub answered-plainly : Answers index 0 names before (record { number = 0; place = 0; count = n; looks = 0; codes = 0 }) after
-  unfolding total
-  answered-plainly = record { number = refl; place = refl; count = count-is; looks = rw plain-costs; codes = rw plain-costs; slots = slots-are }
+  pub answered-plainly : Answers index 0 names before (record { number = 0; place = 0; count = n; looks = 0; codes = 0; looks16 = replicate 16 0; codes16 = replicate 16 0 }) after
+  unfolding total places chargedAt upFrom
+  answered-plainly =
+      record {
+        number = refl;
+        place = refl;
+        count = count-is;
+        looks = rw plain-costs;
+        codes = rw plain-costs;
+        looks16 = rw plain-costs;
+        codes16 = rw plain-costs;
+        slots = slots-are;
+      }
+
+-- by skips: when all lists have been gone through
+module _ (index names : List ℕ) (a : Asked index names) (s : List ℕ) (n r looks codes : ℕ) (looks16 codes16 : List ℕ)
+    (h : Costing index names s n r looks codes looks16 codes16) (e : length names ≤ r) (before after : List ℕ) (long : length s ≡ length before)
+    (is : after ≡ take n s ++ replicate (length s - n) 0) where
+  front : Front (answerSlots index names) n s
+  front = left-end index names a s n r (h .left) e
+
+  -- what is left is the answer, with all its costs
+  pub answered : Answers index 1 names before (record { number = 0; place = 0; count = n; looks = looks; codes = codes; looks16 = looks16; codes16 = codes16 }) after
+  answered =
+      record {
+        number = refl;
+        place = refl;
+        count = count-is index names n s front before after long is;
+        looks = cost-looks index names a s n r looks codes looks16 codes16 h e;
+        codes = cost-codes index names a s n r looks codes looks16 codes16 h e;
+        looks16 = placed-all index names a s n r looks codes looks16 codes16 h (λ c. c .looks) looks16 (h .looks-placed) e;
+        codes16 = placed-all index names a s n r looks codes looks16 codes16 h (λ c. c .codes) codes16 (h .codes-placed) e;
+        slots = slots-are index names n s front before after long is;
+      }

@@ -6,12 +6,11 @@ use lib.ListN.{length, getD, take, replicate}
 use Rattle.paper.specs.Lists.{total}
 use Rattle.paper.specs.Index.{uOf, blockLength}
 use Rattle.paper.specs.Held.{contents}
-use Rattle.paper.specs.Question.{Charge, positions, inOrder, smallest}
+use Rattle.paper.specs.Question.{Charge, positions, inOrder, smallest, places}
 use Rattle.paper.specs.Ask.{named, answerSlots, costs}
 use Rattle.paper.specs.declared.Answer.{Answer}
 use Rattle.record.specs.Front.{Front}
 use Rattle.names.specs.Asked.{Asked}
-use Rattle.skips.specs.declared.Walked.{Walked}
 
 -- the positions of the names by rising count stand in `order`
 abbrev pub Ordered : List ℕ → List ℕ → List ℕ → Type 0
@@ -27,11 +26,6 @@ pub record Ready (index names order slots : List ℕ) : Type 0 where
 abbrev pub Gathered : List ℕ → List ℕ → ℕ → List ℕ → Type 0
 Gathered index names count s = Front (contents (uOf index) (blockLength index) (getD (inOrder (named index names)) 0 [])) count s
 
--- looks and codes are the sums of what the question by skips costs
-pub record Costs (index names : List ℕ) (w : Walked) : Type 0 where
-  pub looks : w .looks ≡ total (map (λ (c : Charge). c .looks) (costs index 1 names))
-  pub codes : w .codes ≡ total (map (λ (c : Charge). c .codes) (costs index 1 names))
-
 -- the answer of an accepted question, and the slice that it leaves
 pub record Answers (index : List ℕ) (way : ℕ) (names before : List ℕ) (r : Answer) (after : List ℕ) : Type 0 where
   pub number : r .number ≡ 0
@@ -39,4 +33,6 @@ pub record Answers (index : List ℕ) (way : ℕ) (names before : List ℕ) (r :
   pub count : r .count ≡ length (answerSlots index names)
   pub looks : r .looks ≡ total (map (λ (c : Charge). c .looks) (costs index way names))
   pub codes : r .codes ≡ total (map (λ (c : Charge). c .codes) (costs index way names))
+  pub looks16 : r .looks16 ≡ places (λ c. c .looks) (costs index way names)
+  pub codes16 : r .codes16 ≡ places (λ c. c .codes) (costs index way names)
   pub slots : after ≡ answerSlots index names ++ replicate (length before - length (answerSlots index names)) 0

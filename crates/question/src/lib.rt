@@ -10,7 +10,7 @@ ghost use Rattle.paper.specs.Question.{smallest};
 ghost use Rattle.paper.specs.Ask.{named, answerSlots};
 ghost use Rattle.record.specs.Front.{Front};
 ghost use Rattle.names.specs.Asked.{Asked};
-ghost use Rattle.question.specs.Answered.{Ordered, Ready, Gathered, Costs, Answers};
+ghost use Rattle.question.specs.Answered.{Ordered, Ready, Gathered, Answers};
 use frame::from_end;
 use gather::clear;
 use names::count_names;
@@ -21,7 +21,6 @@ use paper::Answer;
 use paper::Verdict;
 use ranks::good_names;
 use ranks::order_of;
-use skips::Walked;
 
 // 14, 10 and 11 of a question.
 pub fn check_names(index: &[u8], way: u32, names: &[u32]) -> Verdict
@@ -97,27 +96,38 @@ fn start(index: &[u8], names: &[u32], order: &[u32], slots: &mut [u32]) -> usize
     gather_name(index, name, slots)
 }
 
-// By skips: the candidates walk through the list of each further name, in order. What they cost is summed up.
-fn by_skips(index: &[u8], names: &[u32], order: &[u32], slots: &mut [u32]) -> Walked
+// Answers a question by skips that has room enough: the candidates walk through the list of each further name, in order. What is left of them
+// stands at the front, and 0 behind. What a walk costs is told at the position of its name, and in the sums.
+pub fn answer_by_skips(index: &[u8], names: &[u32], order: &[u32], slots: &mut [u32]) -> Answer
     requires { ⌜ Ready (now index) (now names) (now order) (now slots) ⌝ }
-    ensures { λ r. ⌜ Front (answerSlots (now (index .entry)) (now (names .entry))) (r .count) (now (slots .exit)) × Costs (now (index .entry)) (now (names .entry)) r × (r .count ≤ 1048576) ⌝ }
+    ensures { λ r. ⌜ Answers (now (index .entry)) 1 (now (names .entry)) (now (slots .entry)) r (now (slots .exit)) ⌝ }
 {
     let mut left = start(index, names, order, slots);
     let mut looks: u64 = 0;
     let mut codes: u64 = 0;
+    let mut looks16 = [0u64; 16];
+    let mut codes16 = [0u64; 16];
     let mut r: usize = 1;
     while r < names.len() {
-        let name = name_at(names, order, r);
-        let w = walk_name(index, name, slots, left);
+        let at = wide(order[r]);
+        let w = walk_name(index, names[at], slots, left);
         left = w.count;
         looks = looks + w.looks;
         codes = codes + w.codes;
+        looks16[at] = w.looks;
+        codes16[at] = w.codes;
         r = r + 1;
     }
-    Walked {
-        count: left,
+    let told = left as u32;
+    clear(slots, left);
+    Answer {
+        number: 0,
+        place: 0,
+        count: told,
         looks,
         codes,
+        looks16,
+        codes16,
     }
 }
 
@@ -136,37 +146,21 @@ fn by_merging(index: &[u8], names: &[u32], order: &[u32], slots: &mut [u32]) -> 
     left
 }
 
-// Answers a question by skips that has room enough: the slots at the front, 0 behind them, and what they cost.
-pub fn answer_by_skips(index: &[u8], names: &[u32], order: &[u32], slots: &mut [u32]) -> Answer
+// Answers the same question plainly. It reports no looks and no codes.
+pub fn answer_plainly(index: &[u8], names: &[u32], order: &[u32], slots: &mut [u32]) -> Answer
     requires { ⌜ Ready (now index) (now names) (now order) (now slots) ⌝ }
-    ensures { λ r. ⌜ Answers (now (index .entry)) 1 (now (names .entry)) (now (slots .entry)) r (now (slots .exit)) ⌝ }
+    ensures { λ r. ⌜ Answers (now (index .entry)) 0 (now (names .entry)) (now (slots .entry)) r (now (slots .exit)) ⌝ }
 {
-    let w = by_skips(index, names, order, slots);
-    let count = w.count;
+    let count = by_merging(index, names, order, slots);
     let told = count as u32;
     clear(slots, count);
     Answer {
         number: 0,
         place: 0,
         count: told,
-        looks: w.looks,
-        codes: w.codes,
-    }
-}
-
-// The same plainly. It reports no looks and no codes.
-pub fn answer_plainly(index: &[u8], names: &[u32], order: &[u32], slots: &mut [u32]) -> Answer
-    requires { ⌜ Ready (now index) (now names) (now order) (now slots) ⌝ }
-    ensures { λ r. ⌜ Answers (now (index .entry)) 0 (now (names .entry)) (now (slots .entry)) r (now (slots .exit)) ⌝ }
-{
-    let left = by_merging(index, names, order, slots);
-    let told = left as u32;
-    clear(slots, left);
-    Answer {
-        number: 0,
-        place: 0,
-        count: told,
         looks: 0,
         codes: 0,
+        looks16: [0; 16],
+        codes16: [0; 16],
     }
 }

@@ -67,6 +67,15 @@ pub fn slots(all: &[u32], count: usize) {
     }
 }
 
+// The sixteen places of an answer, each a value.
+pub fn places(all: [u64; 16]) {
+    let mut i = 0;
+    while i < 16 {
+        value(all[i]);
+        i = i + 1;
+    }
+}
+
 fn byte(b: u8) {
     print_hex(STDOUT_FILENO, b as u64, 2);
 }

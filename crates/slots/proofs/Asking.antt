@@ -6,10 +6,11 @@ use native.Mathlib.Decide.{ℕ-discrete}
 use native.Mathlib.Omega.{arith}
 use lib.ListN.{length}
 use borrow.Author.Tests.{ne-eqb}
+use Rattle.paper.specs.Lists.{total, upFrom}
 use Rattle.paper.specs.Refusal.{verdict, accepted, fault10, fault11, fault12, fault14}
 use Rattle.paper.specs.Index.{kOf}
 use Rattle.paper.specs.Look.{look}
-use Rattle.paper.specs.Question.{smallest}
+use Rattle.paper.specs.Question.{smallest, chargedAt, places}
 use Rattle.paper.specs.Ask.{named, roomNeeded, askFault, askAnswer, askSlice, MeetsAsk}
 use Rattle.paper.specs.declared.Verdict.{Verdict}
 use Rattle.paper.specs.declared.Answer.{Answer}
@@ -44,7 +45,7 @@ stays bs way names size v is n (yes z) = or-second _ _ z ∙ link-bad _ (link-na
 module _ (bs : List ℕ) (way : ℕ) (names before : List ℕ) where
   -- what refuses leaves all as it was
   refuses : (f : Verdict) → askFault bs way names (length before) ≡ f → ¬ (f .number ≡ 0) → MeetsAsk bs way names before (refusal (f .number) (f .place)) before
-  unfolding askAnswer askSlice
+  unfolding askAnswer askSlice total places chargedAt upFrom
   refuses f e n = record { answers = rw e (simp (ne-eqb _ _ n)); leaves = rw e (simp (ne-eqb _ _ n)) }
 
   -- what is accepted is answered
@@ -52,7 +53,7 @@ module _ (bs : List ℕ) (way : ℕ) (names before : List ℕ) where
   unfolding askAnswer askSlice
   accepts e r after h =
       record {
-        answers = rw e (rw (← h .count, ← h .looks, ← h .codes, ← h .number) (rw (h .number, h .place)));
+        answers = rw e (rw (← h .count, ← h .looks, ← h .codes, ← h .looks16, ← h .codes16, ← h .number) (rw (h .number, h .place)));
         leaves = rw e (h .slots);
       }
 

@@ -191,6 +191,8 @@ fn refused(number: u32, place: u32) -> Answer
         count: 0,
         looks: 0,
         codes: 0,
+        looks16: [0; 16],
+        codes16: [0; 16],
     }
 }
 

@@ -1,15 +1,19 @@
 -- Fields that are stored one after the other fill the front of a buffer, as far as it reaches; and what is handed over is the library's answer.
-use Prim.Native.Nat.{ℕ, zero, suc, _≤_}
+use Prim.Native.Nat.{ℕ, zero, suc, _+_, _≤_, _<_}
 use mathlib.Core.Path.{_≡_, refl, sym, ap, _∙_}
-use mathlib.Core.List.{List, [], _∷_, _++_}
+use mathlib.Core.List.{List, [], _∷_, _++_, append-assoc, append-nil}
 use native.Mathlib.Nat.{le-of-suc-le-suc, not-suc-le-zero}
-use lib.ListN.{length, set}
+use native.Mathlib.Numerals.{add-one}
+use native.Mathlib.Omega.{arith}
+use lib.ListN.{length, getD, set, drop, drop-of-length-le}
+use lib.Seq.{sets, drop-cons}
 use Rattle.paper.specs.Look.{look, MeetsLook}
 use Rattle.paper.specs.Ask.{askAnswer, MeetsAsk}
 use Rattle.paper.specs.OneList.{testAnswer, countAnswer, partAnswer, MeetsTest, MeetsCount, MeetsPart}
 use Rattle.paper.specs.Write.{writeAnswer, MeetsWrite}
 use Rattle.paper.specs.Close.{closeAnswer, MeetsClose}
-use Rattle.paper.specs.Lists.{bitOf}
+use Rattle.paper.specs.Lists.{bitOf, upFrom}
+use Rattle.paper.specs.Question.{places}
 use Rattle.paper.specs.declared.Verdict.{Verdict}
 use Rattle.paper.specs.declared.Answer.{Answer}
 use Rattle.paper.specs.declared.Tested.{Tested}
@@ -37,6 +41,39 @@ fitted-more [] v [] = refl
 fitted-more [] v (x ∷ l) = ap (λ (r : List ℕ). v ∷ r) (fitted-none l)
 fitted-more (f ∷ fields) v [] = refl
 fitted-more (f ∷ fields) v (x ∷ l) = ap (λ (r : List ℕ). f ∷ r) (fitted-more fields v l)
+
+-- and a run of fields
+fitted-run : (fields vs l : List ℕ) (n : ℕ) → n ≡ length fields → sets (fitted fields l) n vs ≡ fitted (fields ++ vs) l
+fitted-run fields [] l n e = ap (λ (fs : List ℕ). fitted fs l) (sym (append-nil fields))
+fitted-run fields (v ∷ vs) l n e =
+    ap (λ (m : ℕ). sets (set (fitted fields l) m v) (suc m) vs) e
+    ∙ ap (λ (o : List ℕ). sets o (suc (length fields)) vs) (fitted-more fields v l)
+    ∙ fitted-run (fields ++ v ∷ []) vs l (suc (length fields)) (sym (one-longer fields v))
+    ∙ ap (λ (fs : List ℕ). fitted fs l) (append-assoc fields (v ∷ []) vs)
+  where
+    one-longer : (fields : List ℕ) (v : ℕ) → length (fields ++ v ∷ []) ≡ suc (length fields)
+    one-longer [] v = refl
+    one-longer (f ∷ fields) v = ap suc (one-longer fields v)
+
+-- what the places store, of which i are stored
+abbrev pub putting : List ℕ → ℕ → List ℕ → ℕ → List ℕ
+putting o from v i = sets o (from + i) (drop i v)
+
+-- none yet
+pub put-begin : (o : List ℕ) (from : ℕ) (v : List ℕ) → putting o from v 0 ≡ sets o from v
+put-begin o from v = let e : from + 0 ≡ from = omega arith in ap (λ (n : ℕ). sets o n v) e
+
+module _ (o₀ o : List ℕ) (from : ℕ) (v : List ℕ) (i : ℕ) (is : putting o from v i ≡ sets o₀ from v) where
+  -- one more
+  pub put-next : i < length v → (p : List ℕ) → p ≡ set o (from + i) (getD v i 0) → putting p from v (i + 1) ≡ sets o₀ from v
+  put-next h p e =
+      let k : from + (i + 1) ≡ suc (from + i) = omega arith in
+      let d : drop i v ≡ getD v i 0 ∷ drop (suc i) v = drop-cons v i 0 h in
+      rw (e, k, add-one i) (rw d at is)
+
+  -- all
+  pub put-end : length v ≤ i → o ≡ sets o₀ from v
+  put-end h = rw (drop-of-length-le v h) at is
 
 module _ (out one : List ℕ) (a b : ℕ) where
   pub two-put : (two : List ℕ) → one ≡ set out 0 a → two ≡ set one 1 b → two ≡ fitted (a ∷ b ∷ []) out
@@ -75,21 +112,37 @@ module _ (index out out′ : List ℕ) where
     pub lend-handed : (a : Part) → MeetsPart index name a → out′ ≡ fitted (lentFields a) out → HandsLend index name out (a .length) out′
     lend-handed a = handed (λ a. a .length) lentFields (partAnswer index name) a out out′
 
-  pub ask-handed :
-      (way : ℕ) (names before after three four : List ℕ) (a : Answer) →
-      MeetsAsk index way names before a after →
-      three ≡ fitted (a .number ∷ a .place ∷ a .count ∷ []) out →
-      four ≡ set three 3 (a .looks) →
-      out′ ≡ set four 4 (a .codes) →
-      HandsAsk index way names before out (a .number) after out′
-  ask-handed way names before after three four a is h looks codes = record {
-    hands = handed (λ a. a .number) answerFields (askAnswer index way names (length before)) a out out′ (is .answers) (
+  -- the places of an answer are sixteen
+  sixteen : (way : ℕ) (names before after : List ℕ) (a : Answer) → MeetsAsk index way names before a after → length (a .looks16) ≡ 16
+  unfolding askAnswer places upFrom
+  sixteen way names before after a is = rw (is .answers)
+
+  module _ (way : ℕ) (names before after : List ℕ) (a : Answer) (is : MeetsAsk index way names before a after) (three four five looked : List ℕ) where
+    abbrev first : List ℕ
+    first = a .number ∷ a .place ∷ a .count ∷ a .looks ∷ a .codes ∷ []
+
+    five-put : three ≡ fitted (a .number ∷ a .place ∷ a .count ∷ []) out → four ≡ set three 3 (a .looks) → five ≡ set four 4 (a .codes) → five ≡ fitted first out
+    five-put h looks codes =
         codes ∙ ap (λ (l : List ℕ). set l 4 (a .codes)) (
         looks ∙ ap (λ (l : List ℕ). set l 3 (a .looks)) h ∙ fitted-more (a .number ∷ a .place ∷ a .count ∷ []) (a .looks) out
         ) ∙ fitted-more (a .number ∷ a .place ∷ a .count ∷ a .looks ∷ []) (a .codes) out
-        );
-    slots = is .leaves;
-  }
+
+    pub ask-handed :
+        three ≡ fitted (a .number ∷ a .place ∷ a .count ∷ []) out →
+        four ≡ set three 3 (a .looks) →
+        five ≡ set four 4 (a .codes) →
+        looked ≡ sets five 5 (a .looks16) →
+        out′ ≡ sets looked 21 (a .codes16) →
+        HandsAsk index way names before out (a .number) after out′
+    ask-handed h looks codes looks16 codes16 =
+        let p : looked ≡ fitted (first ++ a .looks16) out = looks16 ∙ ap (λ (l : List ℕ). sets l 5 (a .looks16)) (five-put h looks codes) ∙ fitted-run first (a .looks16) out 5 refl in
+        let l = sixteen way names before after a is in
+        let n : 21 ≡ length (first ++ a .looks16) = omega arith in
+        let q = codes16 ∙ ap (λ (l : List ℕ). sets l 21 (a .codes16)) p ∙ fitted-run (first ++ a .looks16) (a .codes16) out 21 n in
+        record {
+          hands = handed (λ a. a .number) answerFields (askAnswer index way names (length before)) a out out′ (is .answers) q;
+          slots = is .leaves;
+        }
 
 module _ (u B : ℕ) (before after out out′ : List ℕ) (a : Written) where
   pub write-handed :

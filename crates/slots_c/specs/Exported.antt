@@ -2,7 +2,7 @@
 -- The answers themselves are those of the library; nothing is judged here.
 use Prim.Native.Nat.{ℕ}
 use mathlib.Core.Path.{_≡_}
-use mathlib.Core.List.{List, [], _∷_}
+use mathlib.Core.List.{List, [], _∷_, _++_}
 use lib.ListN.{length, take}
 use Rattle.paper.specs.Lists.{bitOf, onFront}
 use Rattle.paper.specs.Look.{look}
@@ -21,8 +21,9 @@ use Rattle.paper.specs.declared.Part.{Part}
 abbrev pub verdictFields : Verdict → List ℕ
 verdictFields a = a .number ∷ a .place ∷ []
 
+-- the five numbers of a question, then the sixteen places of looks and the sixteen of codes
 abbrev pub answerFields : Answer → List ℕ
-answerFields a = a .number ∷ a .place ∷ a .count ∷ a .looks ∷ a .codes ∷ []
+answerFields a = (a .number ∷ a .place ∷ a .count ∷ a .looks ∷ a .codes ∷ []) ++ a .looks16 ++ a .codes16
 
 -- yes is 1, no is 0
 abbrev pub testedFields : Tested → List ℕ

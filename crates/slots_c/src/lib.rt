@@ -2,8 +2,10 @@
 // A slice comes as two arguments, pointer and length, and a number as itself. The fields of an answer go to a slice of u64 that the
 // caller lends, since a u64 holds each of them: a shorter slice takes those that fit, and what stood behind them stays.
 ghost use mathlib.Core.Path.{_≡_};
+ghost use Prim.Native.Nat.{_≤_};
 ghost use mathlib.Core.List.{_∷_, []};
 ghost use lib.ListN.{set};
+ghost use lib.Seq.{sets};
 ghost use Rattle.paper.specs.Lists.{bitOf};
 ghost use Rattle.slots_c.specs.Exported.{fitted, HandsLook, HandsAsk, HandsTest, HandsCount, HandsLend, HandsWrite, HandsClose};
 use slots::ask;
@@ -20,6 +22,18 @@ fn put(out: &mut [u64], i: usize, field: u64)
 {
     if i < out.len() {
         out[i] = field;
+    }
+}
+
+// The sixteen places of an answer, field by field from `from` on. (`from` is 5 or 21, so no field's number is too large to be counted.)
+fn put_places(out: &mut [u64], from: usize, places: [u64; 16])
+    requires { ⌜ from ≤ 21 ⌝ }
+    ensures { λ _. ⌜ now (out .exit) ≡ sets (now (out .entry)) from places ⌝ }
+{
+    let mut i: usize = 0;
+    while i < 16 {
+        put(out, from + i, places[i]);
+        i = i + 1;
     }
 }
 
@@ -53,7 +67,7 @@ pub extern "C" fn slots_look(index: &[u8], out: &mut [u64]) -> u32
     seen.number
 }
 
-// out: number place count looks codes
+// out: number place count looks codes, then the looks at each of sixteen positions, then the codes at each
 #[no_mangle]
 pub extern "C" fn slots_ask(
     index: &[u8],
@@ -68,6 +82,10 @@ pub extern "C" fn slots_ask(
     put_three(out, answer.number, answer.place, answer.count);
     put(out, 3, answer.looks);
     put(out, 4, answer.codes);
+    let looks = answer.looks16;
+    put_places(out, 5, looks);
+    let codes = answer.codes16;
+    put_places(out, 21, codes);
     answer.number
 }
 

@@ -6,6 +6,7 @@
 //! either is `-`. The README tells the fields of each operation.
 
 mod asking;
+mod costs;
 mod looking;
 mod others;
 pub(crate) mod shape;
@@ -20,6 +21,7 @@ pub fn all() -> Vec<String> {
     looking::add(&mut deck, &mut random);
     asking::add(&mut deck, &mut random);
     others::add(&mut deck, &mut random);
+    costs::add(&mut deck, &mut random);
     deck.lines
 }
 
@@ -43,6 +45,8 @@ impl Deck {
     fn ask(&mut self, label: &str, index: &[u8], way: u32, names: &[u32], before: &[u32]) {
         let mut slots = before.to_vec();
         let a = ask(index, way, names, &mut slots);
+        // A refusal tells no costs at all.
+        let told = if a.number == 0 { names.len() } else { 0 };
         let fields = [
             hex(index),
             way.to_string(),
@@ -53,6 +57,8 @@ impl Deck {
             a.count.to_string(),
             a.looks.to_string(),
             a.codes.to_string(),
+            numbers(&a.looks_at[..told]),
+            numbers(&a.codes_at[..told]),
             numbers(&slots),
         ];
         self.keep("ask", &fields, label);
@@ -158,10 +164,10 @@ fn hex(bytes: &[u8]) -> String {
     bytes.iter().map(|byte| format!("{byte:02x}")).collect()
 }
 
-fn numbers(values: &[u32]) -> String {
+fn numbers<T: ToString>(values: &[T]) -> String {
     if values.is_empty() {
         return "-".to_string();
     }
-    let words: Vec<String> = values.iter().map(u32::to_string).collect();
+    let words: Vec<String> = values.iter().map(T::to_string).collect();
     words.join(",")
 }

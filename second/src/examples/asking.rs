@@ -26,6 +26,21 @@ pub fn questions(page: &mut Page) {
     page.ask("names 0 1, way 0", &p, PLAIN, &[0, 1], ROOM);
     page.ask("names 1 0 0", &p, SKIPS, &[1, 0, 0], ROOM);
     page.ask("names 1 1", &p, SKIPS, &[1, 1], ROOM);
+    costs(page, &p, &names);
+}
+
+/// What each position of such a question costs; `alternating` has 17 names.
+fn costs(page: &mut Page, p: &[u8], alternating: &[u32]) {
+    page.costs("costs 0 1", p, SKIPS, &[0, 1], ROOM);
+    page.costs("costs 1 0", p, SKIPS, &[1, 0], ROOM);
+    page.costs("costs 1 0 0", p, SKIPS, &[1, 0, 0], ROOM);
+    page.costs("costs 1 1", p, SKIPS, &[1, 1], ROOM);
+    page.costs("costs 0 1, way 0", p, PLAIN, &[0, 1], ROOM);
+    page.costs("costs 16 names", p, SKIPS, &alternating[..16], ROOM);
+    page.costs("costs 17 names", p, SKIPS, alternating, ROOM);
+    page.costs("costs room 6", p, SKIPS, &[0, 1], 6);
+    let damaged = with_byte(p, 54, 0x81);
+    page.costs("costs byte 54 is 81", &damaged, SKIPS, &[0, 1], ROOM);
 }
 
 /// Testing, counting and lending, on the paper's index and on a damaged one.
@@ -81,6 +96,8 @@ pub fn made_lists(page: &mut Page) {
     let ties = index(32, 1, &[first, second]);
     page.ask("ties 0 1", &ties, SKIPS, &[0, 1], ROOM);
     page.ask("ties 1 0", &ties, SKIPS, &[1, 0], ROOM);
+    page.costs("costs ties 0 1", &ties, SKIPS, &[0, 1], ROOM);
+    page.costs("costs ties 1 0", &ties, SKIPS, &[1, 0], ROOM);
 
     let all: Vec<u32> = (1..=26).collect();
     let even: Vec<u32> = (2..=24).step_by(2).collect();
@@ -89,6 +106,9 @@ pub fn made_lists(page: &mut Page) {
     page.ask("rising counts", &rising, SKIPS, &[0, 1, 2], ROOM);
     let label = "rising counts, names 2 1 0";
     page.ask(label, &rising, SKIPS, &[2, 1, 0], ROOM);
+    page.costs("costs rising counts", &rising, SKIPS, &[0, 1, 2], ROOM);
+    let label = "costs rising counts, names 2 1 0";
+    page.costs(label, &rising, SKIPS, &[2, 1, 0], ROOM);
     rubbish(page);
 }
 

@@ -83,6 +83,17 @@ impl Page {
         self.keep(label, &values);
     }
 
+    /// What each position of a question costs: all sixteen places of looks, then
+    /// of codes.
+    fn costs(&mut self, label: &str, index: &[u8], way: u32, names: &[u32], room: usize) {
+        let mut slots = vec![u32::MAX; room];
+        let a = ask(index, way, names, &mut slots);
+        let mut values = [a.number, a.place].map(u64::from).to_vec();
+        values.extend(a.looks_at);
+        values.extend(a.codes_at);
+        self.keep(label, &values);
+    }
+
     fn test(&mut self, label: &str, index: &[u8], name: u32, slot: u32) {
         let a = test(index, name, slot);
         self.keep(label, &[a.number, a.place, a.yes.into()].map(u64::from));

@@ -106,7 +106,7 @@ fn the_printed_lines_are_these() {
 fn form_and_size() {
     let fields = BTreeMap::from([
         ("look", 3),
-        ("ask", 10),
+        ("ask", 12),
         ("test", 6),
         ("count", 5),
         ("part", 7),
@@ -116,7 +116,7 @@ fn form_and_size() {
         ("line", 2),
     ]);
     let cases = cases();
-    assert!((140..=195).contains(&cases.len()), "{}", cases.len());
+    assert!((140..=210).contains(&cases.len()), "{}", cases.len());
     assert!(all().iter().map(|line| line.len() + 1).sum::<usize>() < 120_000);
     let mut labels = BTreeSet::new();
     let mut operations = BTreeMap::new();
@@ -552,27 +552,42 @@ fn note_wild(seen: &mut Seen, index: &[u8]) {
     }
 }
 
+/// The costs of an accepted question are those of the visits, at each position
+/// and together.
+fn agree_on_costs(case: &Case, names: usize, visits: &[Visit]) {
+    let mut looks = vec![0; names];
+    let mut codes = vec![0; names];
+    for visit in visits {
+        looks[visit.position] = visit.looks() as u32;
+        codes[visit.position] = visit.codes() as u32;
+    }
+    let label = &case.label;
+    assert_eq!(case.number(7), looks.iter().sum::<u32>(), "{label}");
+    assert_eq!(case.number(8), codes.iter().sum::<u32>(), "{label}");
+    assert_eq!(case.list(9), looks, "{label}");
+    assert_eq!(case.list(10), codes, "{label}");
+}
+
 #[test]
 fn answers_agree_with_the_model() {
     for case in of("ask") {
         if case.number(4) != 0 {
-            assert_eq!(case.list(3), case.list(9));
+            assert_eq!(case.list(3), case.list(11));
             assert_eq!([6, 7, 8].map(|i| case.number(i)), [0; 3]);
+            assert_eq!([9, 10].map(|i| case.list(i)), [vec![], vec![]]);
             continue;
         }
         let index = model::read(&case.bytes(0));
         let names = case.list(2);
-        let (slots, visits) = model::question(&index, &names);
-        let plain = case.number(1) == 0;
-        let looks: u64 = visits.iter().map(Visit::looks).sum();
-        let codes: u64 = visits.iter().map(Visit::codes).sum();
-        let cost = if plain { (0, 0) } else { (looks, codes) };
-        assert_eq!(u64::from(case.number(7)), cost.0, "{}", case.label);
-        assert_eq!(u64::from(case.number(8)), cost.1, "{}", case.label);
+        let (slots, mut visits) = model::question(&index, &names);
+        if case.number(1) == 0 {
+            visits.clear();
+        }
+        agree_on_costs(&case, names.len(), &visits);
         assert_eq!(case.number(6) as usize, slots.len());
         let mut after = slots;
         after.resize(case.list(3).len(), 0);
-        assert_eq!(case.list(9), after);
+        assert_eq!(case.list(11), after);
     }
     for case in of("test") {
         if case.number(3) == 0 {
@@ -703,6 +718,50 @@ fn questions_of_every_kind() {
         assert!(seen.0[often] >= 2, "{often}");
     }
     assert!(seen.0["no move"] >= 10);
+}
+
+#[test]
+fn costs_of_every_kind() {
+    let mut seen = Seen::default();
+    for case in of("ask") {
+        let names = case.list(2);
+        let number = case.number(4);
+        let lists: BTreeSet<u32> = names.iter().copied().collect();
+        seen.note("12 with four lists", number == 12 && lists.len() == 4);
+        if number != 0 {
+            continue;
+        }
+        let plain = case.number(1) == 0;
+        seen.note("four lists plainly", plain && lists.len() == 4);
+        if !plain {
+            note_costs(&mut seen, &case, &names);
+        }
+    }
+    seen.expect(1);
+}
+
+/// What the costs of a question by skips are like.
+fn note_costs(seen: &mut Seen, case: &Case, names: &[u32]) {
+    let index = model::read(&case.bytes(0));
+    let count = |&position: &usize| index.lists[names[position] as usize].count();
+    let start = (0..names.len()).min_by_key(count).unwrap();
+    let (looks, codes) = (case.list(9), case.list(10));
+    assert_eq!((looks[start], codes[start]), (0, 0));
+    let counts: BTreeSet<usize> = (0..names.len()).map(|at| count(&at)).collect();
+    let dear = |at: &usize| looks[*at] > 0 && codes[*at] > 0;
+    let costly: Vec<usize> = (0..names.len()).filter(dear).collect();
+    let all = costly.len() + 1 == names.len();
+    seen.note("before the start", costly.iter().any(|&at| at < start));
+    seen.note("behind the start", costly.iter().any(|&at| at > start));
+    seen.note("three counts", all && names.len() == 3 && counts.len() == 3);
+    seen.note("four counts", all && names.len() == 4 && counts.len() == 4);
+    seen.note("16 names", names.len() == 16 && costly.len() > 6);
+    for &name in names {
+        let at = costly.iter().filter(|&&at| names[at] == name);
+        let own: Vec<u32> = at.map(|&at| looks[at]).collect();
+        let differ = own.iter().any(|looks| *looks != own[0]);
+        seen.note("a list three times", own.len() == 3 && differ);
+    }
 }
 
 fn note_visits(seen: &mut Seen, index: &model::Index, visits: &[Visit]) {

@@ -4,6 +4,7 @@
 
 mod cases;
 mod closing;
+mod costs;
 mod examples;
 mod further;
 mod large;

@@ -159,6 +159,8 @@ pub struct Step {
 
 /// What happens at one position of a question by skips.
 pub struct Visit {
+    /// Where its name stands in the question, counted from 0.
+    pub position: usize,
     pub list: usize,
     pub candidates: usize,
     pub bit_tests: usize,
@@ -190,6 +192,7 @@ pub fn question(index: &Index, names: &[u32]) -> (Vec<u32>, Vec<Visit>) {
         let blocks: Vec<&[u32]> = list.tail.chunks(index.block).collect();
         let entries: Vec<u32> = blocks.iter().map(|block| block[0]).collect();
         let mut visit = Visit {
+            position,
             list: names[position] as usize,
             candidates: candidates.len(),
             bit_tests: 0,

@@ -7,13 +7,13 @@ use second::{ask, close, count, lend, look, part, test, write, Verdict};
 use std::collections::{BTreeMap, BTreeSet};
 
 /// Lists with their sizes, before they are packed.
-struct Lists {
-    u: u32,
-    block: u32,
-    lists: Vec<(u32, Vec<u32>)>,
+pub struct Lists {
+    pub u: u32,
+    pub block: u32,
+    pub lists: Vec<(u32, Vec<u32>)>,
 }
 
-fn some_lists(random: &mut Random) -> Lists {
+pub fn some_lists(random: &mut Random) -> Lists {
     let u = match random.below(4) {
         0 => random.between(1, 20),
         1 => random.between(20, 300),
@@ -49,7 +49,7 @@ fn some_lists(random: &mut Random) -> Lists {
     Lists { u, block, lists }
 }
 
-fn pack(given: &Lists) -> Vec<Vec<u8>> {
+pub fn pack(given: &Lists) -> Vec<Vec<u8>> {
     let lists = given.lists.iter();
     lists
         .map(|(cut, slots)| written(given.u, given.block, *cut, slots))
@@ -91,11 +91,18 @@ fn intersection(given: &Lists, names: &[u32]) -> Vec<u32> {
     common.into_iter().collect()
 }
 
-fn some_names(random: &mut Random, given: &Lists) -> Vec<u32> {
+pub fn some_names(random: &mut Random, given: &Lists) -> Vec<u32> {
     let most = if random.below(8) == 0 { 16 } else { 4 };
     let many = random.between(1, most);
     let k = given.lists.len() as u32;
     (0..many).map(|_| random.below(k)).collect()
+}
+
+/// Puts things into another order.
+pub fn shuffle<T>(random: &mut Random, things: &mut [T]) {
+    for last in (1..things.len()).rev() {
+        things.swap(last, random.below(last as u32 + 1) as usize);
+    }
 }
 
 #[test]
@@ -315,6 +322,7 @@ fn examine(index: &[u8]) -> bool {
             }
             if answer.number != 0 {
                 assert_eq!((answer.count, answer.looks, answer.codes), (0, 0, 0));
+                assert_eq!((answer.looks_at, answer.codes_at), ([0; 16], [0; 16]));
                 assert_eq!(slots, old);
             }
         }

@@ -119,7 +119,15 @@ pub fn looks_like(index: &[u8], number: u32, place: u32) {
     assert_eq!(second::look(index), Verdict { number, place });
 }
 
-/// Asks a question that must be answered, and checks the whole slice.
+/// Sixteen places of which the first hold these, and the others 0.
+pub fn places(first: &[u64]) -> [u64; 16] {
+    let mut all = [0; 16];
+    all[..first.len()].copy_from_slice(first);
+    all
+}
+
+/// Asks a question that must be answered, checks the whole slice and the
+/// totals, and that the places of the names come to them.
 #[track_caller]
 pub fn answers(
     index: &[u8],
@@ -128,19 +136,28 @@ pub fn answers(
     room: usize,
     slots: &[u32],
     cost: (u64, u64),
-) {
+) -> Answer {
     let mut slice = vec![OLD; room];
     let answer = second::ask(index, way, names, &mut slice);
+    let sum = |places: &[u64]| places.iter().sum::<u64>();
+    let named = (
+        sum(&answer.looks_at[..names.len()]),
+        sum(&answer.codes_at[..names.len()]),
+    );
     let expected = Answer {
         number: 0,
         place: 0,
         count: slots.len() as u32,
         looks: cost.0,
         codes: cost.1,
+        looks_at: places(&answer.looks_at[..names.len()]),
+        codes_at: places(&answer.codes_at[..names.len()]),
     };
     assert_eq!(answer, expected);
+    assert_eq!(named, cost);
     assert_eq!(&slice[..slots.len()], slots);
     assert!(slice[slots.len()..].iter().all(|&slot| slot == 0));
+    answer
 }
 
 /// Asks a question that must be refused, and checks the slice is as before.
@@ -154,6 +171,8 @@ pub fn refuses(index: &[u8], way: u32, names: &[u32], room: usize, number: u32, 
         count: 0,
         looks: 0,
         codes: 0,
+        looks_at: [0; 16],
+        codes_at: [0; 16],
     };
     assert_eq!(answer, expected);
     assert_eq!(slice, vec![OLD; room]);

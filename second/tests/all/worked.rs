@@ -2,7 +2,7 @@
 //! from a run: they stand in the paper, were worked out beside it, or follow
 //! from its rules in the few steps noted here.
 
-use crate::tools::paper;
+use crate::tools::{paper, places};
 use second::examples;
 use std::collections::{BTreeMap, BTreeSet};
 use std::process::Command;
@@ -32,8 +32,8 @@ fn each_has_its_own_label() {
         .iter()
         .map(|line| line.split_once(": ").expect("a colon").0)
         .collect();
-    assert_eq!(lines.len(), 117);
-    assert_eq!(labels.len(), 117);
+    assert_eq!(lines.len(), 130);
+    assert_eq!(labels.len(), 130);
 }
 
 #[test]
@@ -93,6 +93,91 @@ fn sixteen_names() {
     let codes = 7 * 3 + 14 + 7 * 11;
     let values = format!("0 0 5 {looks} {codes} 5 12 16 26 30");
     says(&[("16 names", &values)]);
+}
+
+/// An accepted example of costs must show these places, and 0 in all others.
+#[track_caller]
+fn costs(label: &str, looks: &[u64], codes: &[u64]) {
+    let places = [places(looks), places(codes)].concat();
+    let words: Vec<String> = places.iter().map(u64::to_string).collect();
+    says(&[(label, &format!("0 0 {}", words.join(" ")))]);
+}
+
+#[test]
+fn costs_on_the_papers_index() {
+    // List 1's seven slots in list 0: 2+1+2+1+2+1+0 looks and 1+2+1+3+3+2+2 codes.
+    costs("costs 0 1", &[9, 0], &[14, 0]);
+    costs("costs 1 0", &[0, 9], &[0, 14]);
+    // Then 5 12 16 26 30: 2+2+1+2+1 looks and 2+1+3+3+2 codes.
+    costs("costs 1 0 0", &[0, 9, 8], &[0, 14, 11]);
+    // 26 is found by one look, 30 and 31 in its block by 1 and 2 codes.
+    costs("costs 1 1", &[0, 1], &[0, 3]);
+    costs("costs 0 1, way 0", &[], &[]);
+    // List 1's first position starts and its others come next, as in `costs 1 1`.
+    // Then list 0 meets seven candidates at its first position, five at the others.
+    costs(
+        "costs 16 names",
+        &[9, 0, 8, 1, 8, 1, 8, 1, 8, 1, 8, 1, 8, 1, 8, 1],
+        &[14, 0, 11, 3, 11, 3, 11, 3, 11, 3, 11, 3, 11, 3, 11, 3],
+    );
+}
+
+#[test]
+fn costs_of_made_lists() {
+    // 7 looks at blocks 1, 2 and 4, behind which 8, 9 and 10 find none to look at.
+    // 1, 2, 3 and 4 each fail at block 1. Blocks of one slot have no codes.
+    costs("costs ties 0 1", &[0, 3], &[0, 0]);
+    costs("costs ties 1 0", &[0, 4], &[0, 0]);
+    // List 2 comes first: 4 9 16 25 cost 2+2+4+2 looks and a code each there. List 1
+    // then gets 4 and 16, for 4+6 looks and a code each.
+    costs("costs rising counts", &[0, 10, 10], &[0, 2, 4]);
+    costs("costs rising counts, names 2 1 0", &[10, 10, 0], &[4, 2, 0]);
+}
+
+#[test]
+fn costs_of_refusals() {
+    let zeros = " 0".repeat(32);
+    for (label, refusal) in [
+        ("costs 17 names", "10 0"),
+        ("costs room 6", "12 7"),
+        ("costs byte 54 is 81", "8 0"),
+    ] {
+        says(&[(label, &format!("{refusal}{zeros}"))]);
+    }
+}
+
+#[test]
+fn the_lines_about_costs_have_their_places() {
+    let lines = examples::all();
+    let labels: Vec<&str> = lines
+        .iter()
+        .map(|line| line.split_once(": ").expect("a colon").0)
+        .collect();
+    let from = |label: &str| labels.iter().position(|&other| other == label).unwrap();
+    let of_paper = [
+        "names 1 1",
+        "costs 0 1",
+        "costs 1 0",
+        "costs 1 0 0",
+        "costs 1 1",
+        "costs 0 1, way 0",
+        "costs 16 names",
+        "costs 17 names",
+        "costs room 6",
+        "costs byte 54 is 81",
+        "slot 32 in list 0",
+    ];
+    assert_eq!(labels[from(of_paper[0])..][..of_paper.len()], of_paper);
+    let of_made = [
+        "ties 1 0",
+        "costs ties 0 1",
+        "costs ties 1 0",
+        "rising counts",
+        "rising counts, names 2 1 0",
+        "costs rising counts",
+        "costs rising counts, names 2 1 0",
+    ];
+    assert_eq!(labels[from(of_made[0])..][..of_made.len()], of_made);
 }
 
 #[test]
@@ -195,7 +280,8 @@ fn the_lines_about_rubbish_have_their_places() {
     let follows = |label: &str, next: &str| {
         assert_eq!(at(next), at(label).map(|i| i + 1), "{label}, {next}");
     };
-    follows("rising counts, names 2 1 0", "rubbish behind the cut, look");
+    let last = "costs rising counts, names 2 1 0";
+    follows(last, "rubbish behind the cut, look");
     follows("rubbish in list 1, a fault in list 0", "order of faults");
     follows("L without tail", "cut 9, bits 80 80");
     follows("17 and a faulty block", "write gap 16384");
