@@ -356,6 +356,11 @@ costing-rows =
 unfoldable pub readings : List (ℕ × Row)
 readings = paper-rows ++ (looking-rows ++ (search-rows ++ (asking-rows ++ (writing-rows ++ (program-rows ++ (file-rows ++ (unused-rows ++ (rubbish-rows ++ costing-rows))))))))
 
+-- all that a claim on one of its rows opens
+unfoldable pub all-rows : ℕ
+unfolding readings paper-rows looking-rows search-rows asking-rows writing-rows program-rows file-rows unused-rows rubbish-rows costing-rows
+all-rows = 0
+
 paper-hold : failing paper-rows ≡ []
 unfolding opened judged paper-rows
 paper-hold = refl

@@ -98,14 +98,16 @@ module _ (index names : List ℕ) (room : ℕ) (ok : askAnswer index 1 names roo
   abbrev rs : List (List ℕ)
   rs = named index names
 
-  accepted : Passed index 1 names room
+  -- all its checks were passed
+  pub accepted : Passed index 1 names room
   unfolding askAnswer
   accepted = passed index 1 names room ok
 
-  some-B : 1 ≤ B
+  pub some-B : 1 ≤ B
   some-B = looked index (accepted .looked) .frame .some-B
 
-  sound : AllSound u B rs
+  -- the records named are sound
+  pub sound : AllSound u B rs
   sound = named-sound index names (looked index (accepted .looked)) (accepted .good .below)
 
   some : 0 < length rs

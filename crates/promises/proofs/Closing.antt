@@ -21,18 +21,7 @@ use Rattle.paper.specs.declared.Written.{Written}
 use Rattle.paper.proofs.Hex.{hex, list0, list1, index}
 use Rattle.paper.proofs.Open.{opened}
 use Rattle.paper.proofs.Rows.{room}
-use Rattle.paper.proofs.Readings.{
-  readings,
-  paper-rows,
-  looking-rows,
-  search-rows,
-  asking-rows,
-  writing-rows,
-  program-rows,
-  file-rows,
-  unused-rows,
-  rubbish-rows,
-}
+use Rattle.paper.proofs.Readings.{readings, all-rows}
 use Rattle.laws.proofs.Lists.{Each}
 use Rattle.laws.proofs.Parts.{AllBytes}
 use Rattle.promises.proofs.IndexRows.{Word, words, WellFormed, ByTheTable}
@@ -234,7 +223,7 @@ CloseRefuses =
 
 -- (rows of the readings by their labels)
 pub close-refuses : CloseRefuses
-unfolding readings paper-rows looking-rows search-rows asking-rows writing-rows program-rows file-rows unused-rows rubbish-rows labelled
+unfolding all-rows labelled
 close-refuses = (
   examples.in-readings 441 _ _ _ _ _ _ _ refl,
   examples.in-readings 450 _ _ _ _ _ _ _ refl,
@@ -263,7 +252,7 @@ abbrev pub twoRecords : List ℕ
 twoRecords = list0 ++ list1 ++ room 32
 
 two-close : ClosesTo twoRecords 32 4 79 (0 ∷ 55 ∷ []) (0 ∷ 0 ∷ 111 ∷ []) index
-unfolding readings paper-rows labelled
+unfolding all-rows labelled
 two-close = examples.in-readings 106 _ _ _ _ _ _ _ refl
 
 -- One that refuses everything breaks the promise at these.

@@ -23,14 +23,14 @@ use Rattle.laws.proofs.Places.{charged-none, charged-here, charged-there, place
 use Rattle.meaning.proofs.Rising.{Ascends}
 use Rattle.meaning.proofs.Sound.{contents-rise}
 use Rattle.meaning.proofs.Orders.{Before, order-rise}
-use Rattle.meaning.proofs.Walking.{AllSound, passed, passed-all, keep-rise, named-sound}
+use Rattle.meaning.proofs.Walking.{passed, passed-all, keep-rise}
 use Rattle.meaning.proofs.Common.{positions-length, position-has, position-inside, position-once, ordered-length, ordered-at, ordered-sound, in-each, each-in}
-use Rattle.promises.proofs.QuestionNumbers as numbers
 use Rattle.promises.proofs.QuestionNumbers.{Passed}
 use Rattle.promises.proofs.QuestionAlike.{never}
 use Rattle.promises.proofs.WalkCost.{searches, walkedOver, allowed, walk-seen, walk-looks-all, walk-allowed}
 use Rattle.promises.proofs.SeekCodes.{readOver, walk-read, walk-codes}
 use Rattle.promises.proofs.SkipCost.{Visit, visits, seenIn, readIn}
+use Rattle.promises.proofs.AnswerCost as answer
 use Rattle.promises.proofs.AnswerCost.{charged, visitsOf, charged-seen, charged-read, skips-charged}
 use Rattle.promises.proofs.SkipOrder.{sizes, sizes-counts}
 use Rattle.promises.proofs.PlaceSums.{chargedTo, charged-inside}
@@ -167,21 +167,14 @@ module _ (index names : List ℕ) (room : ℕ) (ok : askAnswer index 1 names roo
   abbrev ps : List ℕ
   ps = positions rs
 
-  accepted : Passed index 1 names room
-  unfolding askAnswer
-  accepted = numbers.passed index 1 names room ok
-
-  some-B : 1 ≤ B
-  some-B = looked index (accepted .looked) .frame .some-B
-
-  sound : AllSound u B rs
-  sound = named-sound index names (looked index (accepted .looked)) (accepted .good .below)
+  abbrev passes : Passed index 1 names room
+  passes = answer.accepted index names room ok
 
   as-many : length rs ≡ length names
   as-many = named-many index names
 
   counts-are : sizes index names ≡ map countOf rs
-  counts-are = sizes-counts index (accepted .looked) names (accepted .good .below)
+  counts-are = sizes-counts index (passes .looked) names (passes .good .below)
 
   -- what stands in a place
   module _ (i : ℕ) (l : i < 16) where
@@ -280,7 +273,7 @@ module _ (index names : List ℕ) (room : ℕ) (ok : askAnswer index 1 names roo
         omega arith
 
     sixteen : at < 16
-    sixteen = let n = as-many in let p = position-inside rs (1 + a) (omega arith) in let f = accepted .good .few in omega arith
+    sixteen = let n = as-many in let p = position-inside rs (1 + a) (omega arith) in let f = passes .good .few in omega arith
 
     -- its looks
     looks-spent : getD (askAnswer index 1 names room .looks16) at 0 ≡ length (walkedOver list 0 comers)
@@ -304,8 +297,10 @@ module _ (index names : List ℕ) (room : ℕ) (ok : askAnswer index 1 names roo
     comers-rise : Ascends u 0 comers
     comers-rise =
         let m = ordered-many in
+        let k = answer.some-B index names room ok in
+        let free = ordered-sound u B k rs (answer.sound index names room ok) 0 (omega arith) in
         rw (passed-all (map (contents u B) (take a (drop 1 (inOrder rs)))) (contents u B (getD (inOrder rs) 0 [])))
-        (keep-rise _ u 0 _ (contents-rise u B (getD (inOrder rs) 0 []) some-B (ordered-sound u B some-B rs sound 0 (omega arith))))
+        (keep-rise _ u 0 _ (contents-rise u B (getD (inOrder rs) 0 []) k free))
 
     -- and are those that all lists before hold
     comers-are : (x : ℕ) → In x comers ↔ ((j : ℕ) → j < length names → Before (sizes index names) j at → In x (held index (getD names j 0)))
@@ -341,7 +336,7 @@ module _ (index names : List ℕ) (room : ℕ) (ok : askAnswer index 1 names roo
   started i l n = let p = rank i l in go (p .0) (p .1) (p .2)
     where
       few : i < 16
-      few = let f = accepted .good .few in omega arith
+      few = let f = passes .good .few in omega arith
 
       go : (r : ℕ) → r < length names → getD ps r 0 ≡ i → (getD (askAnswer index 1 names room .looks16) i 0 ≡ 0) × (getD (askAnswer index 1 names room .codes16) i 0 ≡ 0)
       go zero k e = (looks-place i few ∙ rw (← e) (start (λ c. c .looks)), codes-place i few ∙ rw (← e) (start (λ c. c .codes)))
@@ -355,7 +350,7 @@ module _ (index names : List ℕ) (room : ℕ) (ok : askAnswer index 1 names roo
       × ((i : ℕ) → i < length names → ¬ (i ≡ s) → Before (sizes index names) s i)
   one-first =
       let n = as-many in
-      let k = accepted .good .some in
+      let k = passes .good .some in
       let h = position-inside rs 0 (omega arith) in (
         getD ps 0 0,
         omega arith,
@@ -370,7 +365,7 @@ module _ (index names : List ℕ) (room : ℕ) (ok : askAnswer index 1 names roo
   -- THE BOUNDS at a position
   module _ (i : ℕ) (l : i < length names) (s : Spent index names room i) where
     sound-there : recordFault u B (length (recordOf index (getD names i 0))) (recordOf index (getD names i 0)) ≡ 0
-    sound-there = looked index (accepted .looked) .lists (getD names i 0) (accepted .good .below i l)
+    sound-there = looked index (passes .looked) .lists (getD names i 0) (passes .good .below i l)
 
     walked : getD (askAnswer index 1 names room .looks16) i 0 ≡ walkList (listAt index names i) 0 (s .candidates) .looks
     walked = s .looks ∙ sym (walk-seen (listAt index names i) 0 (s .candidates))
@@ -387,5 +382,6 @@ module _ (index names : List ℕ) (room : ℕ) (ok : askAnswer index 1 names roo
     pub spent-codes : getD (askAnswer index 1 names room .codes16) i 0 ≤ (B - 1) * searches (listAt index names i) (s .candidates)
     spent-codes =
         let r = recordOf index (getD names i 0) in
-        let e = s .codes ∙ sym (walk-read u B r some-B sound-there (s .candidates) 0) in
-        rw e (walk-codes u B r some-B sound-there (s .candidates) 0)
+        let k = answer.some-B index names room ok in
+        let e = s .codes ∙ sym (walk-read u B r k sound-there (s .candidates) 0) in
+        rw e (walk-codes u B r k sound-there (s .candidates) 0)

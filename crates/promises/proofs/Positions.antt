@@ -14,19 +14,7 @@ use Rattle.paper.specs.declared.Answer.{Answer}
 use Rattle.paper.proofs.Hex.{index, slots1}
 use Rattle.paper.proofs.Rows.{room}
 use Rattle.paper.proofs.Table.{table}
-use Rattle.paper.proofs.Readings.{
-  readings,
-  paper-rows,
-  looking-rows,
-  search-rows,
-  asking-rows,
-  writing-rows,
-  program-rows,
-  file-rows,
-  unused-rows,
-  rubbish-rows,
-  costing-rows,
-}
+use Rattle.paper.proofs.Readings.{all-rows}
 use Rattle.meaning.proofs.Orders.{Before}
 use Rattle.promises.proofs.ExampleRows.{labelled}
 use Rattle.promises.proofs.QuestionExamples as examples
@@ -145,7 +133,7 @@ PaperPlaces =
 
 -- (rows of the table by their places, counted from 0; rows of the readings by their labels)
 pub paper-places : PaperPlaces
-unfolding slots1 table readings paper-rows looking-rows search-rows asking-rows writing-rows program-rows file-rows unused-rows rubbish-rows costing-rows labelled
+unfolding slots1 table all-rows labelled
 paper-places = (
   examples.in-table 0 .asked _ _ _ _ _ _ _ _ refl .1,
   examples.in-readings 701 .asked _ _ _ _ _ _ _ _ refl .1,

@@ -24,7 +24,7 @@ use Rattle.paper.specs.declared.Answer.{Answer}
 use Rattle.paper.proofs.Hex.{hex, index, slots1}
 use Rattle.paper.proofs.Rows.{room}
 use Rattle.paper.proofs.Table.{table}
-use Rattle.paper.proofs.Readings.{readings, paper-rows, looking-rows, search-rows, asking-rows}
+use Rattle.paper.proofs.Readings.{readings, all-rows}
 use Rattle.laws.proofs.Lists.{In, Each}
 use Rattle.laws.proofs.Lists.In.{here}
 use Rattle.laws.proofs.Parts.{AllBytes}
@@ -271,7 +271,7 @@ PaperAnswers =
 
 -- (rows of the table by their places, counted from 0; rows of the readings by their labels)
 pub paper-answers : PaperAnswers
-unfolding slots1 table readings paper-rows looking-rows search-rows asking-rows labelled
+unfolding slots1 table all-rows labelled
 paper-answers = (
   examples.in-table 0 .asked _ _ _ _ _ _ _ _ refl .0,
   examples.in-table 2 .asked _ _ _ _ _ _ _ _ refl .0,
@@ -310,7 +310,7 @@ OtherAnswers =
     × Gives inside 1 (0 ∷ 1 ∷ []) (room 5) (0 ∷ 0 ∷ 4 ∷ 5 ∷ 1 ∷ []) (3 ∷ 11 ∷ 13 ∷ 22 ∷ 0 ∷ [])
 
 pub other-answers : OtherAnswers
-unfolding readings paper-rows looking-rows search-rows asking-rows labelled
+unfolding all-rows labelled
 other-answers = (
   examples.in-readings 308 .asked _ _ _ _ _ _ _ _ refl .0,
   examples.in-readings 309 .asked _ _ _ _ _ _ _ _ refl .0,
@@ -324,7 +324,7 @@ ProgramPrints =
     program (some index) (hex 5 0x31_20_30_20_31) ≡ hex 22 0x30_20_30_20_39_20_31_34_0A_35_0A_31_32_0A_31_36_0A_32_36_0A_33_30 ++ hex 1 0x0A
 
 pub program-prints : ProgramPrints
-unfolding readings paper-rows labelled
+unfolding all-rows labelled
 program-prints = examples.in-readings 107 .run _ _ _ refl
 
 -- So it is of every question, and of every text for the program, in the table of the paper's examples and in that of the further ones.
