@@ -36,7 +36,7 @@ impl Limits {
     pub fn case(&self, number: u64, random: &mut Random) -> Option<Case> {
         let case = match number {
             0..=16 => self.of_the_longest(number, random),
-            17..=34 => of_many(number, random),
+            17..=35 => of_many(number, random),
             _ => return None,
         };
         Some(case.whole_out(random))
@@ -140,8 +140,9 @@ fn of_many(number: u64, random: &mut Random) -> Case {
         29 => every_slot_asked(random, 1),
         30 => every_slot_asked(random, 0),
         31 => many_looks(random),
-        32 => long_bits(0, &[]),
-        33 => long_bits(1, &[(17, 0)]),
+        32 => long_bits(Call::Look, 0, &[]),
+        33 => long_bits(Call::Look, 1, &[(17, 0)]),
+        34 => long_bits(Call::Count { name: 0 }, 0, &[]),
         _ => last_of_many_soiled(),
     }
 }
@@ -176,13 +177,13 @@ fn last_of_many_soiled() -> Case {
 }
 
 /// As many bits as can be but one, all set up to the cut, and that one as given.
-fn long_bits(behind: u8, aim: &[Verdict]) -> Case {
+fn long_bits(call: Call, behind: u8, aim: &[Verdict]) -> Case {
     let cut = MOST_SLOTS - 1;
     let all: Vec<u32> = (1..=cut).collect();
     let mut list = List::of(1, cut, &all);
     list.bits[131_071] |= behind;
     let bytes = index(MOST_SLOTS, 1, &[list.bytes()]);
-    Case::new("limit: bits", Call::Look, bytes).refused_by(aim)
+    Case::new("limit: bits", call, bytes).refused_by(aim)
 }
 
 /// So many empty lists, closed.

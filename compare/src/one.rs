@@ -2,6 +2,7 @@
 
 use crate::case::{Call, Case, Verdict};
 use crate::make::{once_in, one_of, some_shelf, Shelf, WILD};
+use crate::pack::List;
 use second::random::Random;
 
 fn some_name(random: &mut Random, shelf: &Shelf) -> u32 {
@@ -60,8 +61,27 @@ fn some_slot(random: &mut Random, shelf: &Shelf, name: u32) -> u32 {
     }
 }
 
+/// One list whose bits end so many bits behind so many bytes behind so many
+/// eights of bytes: full, half full, or nearly empty.
+fn by_eights(random: &mut Random) -> Shelf {
+    let cut = 64 * random.below(4) + 8 * random.below(8) + random.below(8);
+    let u = cut + random.between(1, 20);
+    let few = one_of(random, &[1, 2, 2, 2, 40]);
+    let slots: Vec<u32> = (1..=u).filter(|_| once_in(random, few)).collect();
+    Shelf {
+        u,
+        block: 4,
+        lists: vec![List::of(4, cut, &slots)],
+        held: vec![slots],
+    }
+}
+
 pub fn count(random: &mut Random) -> Case {
-    let shelf = some_shelf(random);
+    let shelf = if once_in(random, 2) {
+        by_eights(random)
+    } else {
+        some_shelf(random)
+    };
     let name = some_name(random, &shelf);
     let reasons = misnamed(&shelf, name);
     Case::new("a list counted", Call::Count { name }, shelf.index())

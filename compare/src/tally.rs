@@ -4,7 +4,7 @@ use crate::case::{Call, Case, Outcome, Verdict, CALLS, CODES_AT, LOOKS_AT};
 use crate::lie::LIES;
 use crate::read;
 use crate::third::{Met, PLAIN_ZEROS, REFUSED_ZEROS};
-use crate::trace::MET;
+use crate::trace;
 use std::collections::BTreeMap;
 use std::ops::Range;
 
@@ -386,5 +386,5 @@ fn required() -> impl Iterator<Item = &'static str> {
     let closed = [CLOSED_EARLIER, CLOSED_LATER];
     let spots = SPOTS.into_iter().chain(by_17).chain(closed);
     let costs = [REFUSED_ZEROS, PLAIN_ZEROS].into_iter().chain(ENDS);
-    MET.into_iter().chain(costs).chain(rooms).chain(spots)
+    trace::required().chain(costs).chain(rooms).chain(spots)
 }

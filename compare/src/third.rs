@@ -4,7 +4,7 @@
 use crate::case::{Call, Case, Outcome, CODES_AT, LOOKS_AT};
 use crate::pack::{ending, List};
 use crate::read::{self, Seen};
-use crate::trace::{common, met_by_costs, met_by_list, met_by_names, walk};
+use crate::trace::{common, met_by_costs, met_by_count, met_by_list, met_by_names, walk};
 use crate::trace::{WRITTEN_CUT, WRITTEN_THREE, WRITTEN_TWO};
 use std::collections::{BTreeMap, BTreeSet};
 
@@ -66,7 +66,7 @@ fn by_the_bytes(case: &Case, outcome: &Outcome) -> Result<Met, String> {
         Call::Count { name } => {
             let list = accepted(index, name)?;
             same("count", outcome.numbers[2], list.held.len() as u64)?;
-            Ok(met_by_list(&list))
+            Ok(&met_by_list(&list) | &met_by_count(&list))
         }
         Call::Lend { name } => {
             let list = accepted(index, name)?;

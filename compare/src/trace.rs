@@ -27,12 +27,32 @@ pub const COST_TWICE: &str = "a list named twice, its two costs different";
 pub const COST_LAST: &str = "sixteen names, a cost at the last";
 pub const START_LATER: &str = "the starting list isn't the first name";
 
+// Where bits go by eights of bytes, then bytes, then bits of a byte.
+pub const START_EIGHTS: &str = "the starting list has slots in eights of bytes";
+pub const FULL_EIGHT: &str = "counted: eight bytes of ones";
+/// The parts of a list's bits that were counted, by whether there are eights
+/// (4), bytes (2) and bits (1).
+const COUNTED: [&str; 8] = [
+    "counted: no bits",
+    "counted: bits of a byte",
+    "counted: bytes",
+    "counted: bytes, bits of a byte",
+    "counted: eights of bytes",
+    "counted: eights, bits of a byte",
+    "counted: eights, bytes",
+    "counted: eights, bytes, bits of a byte",
+];
+
 pub const WRITTEN_TWO: &str = "written: a code of two bytes";
 pub const WRITTEN_THREE: &str = "written: a code of three bytes";
 pub const WRITTEN_CUT: &str = "written: a cut inside a byte";
 
 /// What must be met somewhere in a run.
-pub const MET: [&str; 23] = [
+pub fn required() -> impl Iterator<Item = &'static str> {
+    MET.into_iter().chain(COUNTED)
+}
+
+const MET: [&str; 25] = [
     TWO_BYTES,
     THREE_BYTES,
     INSIDE,
@@ -53,6 +73,8 @@ pub const MET: [&str; 23] = [
     COST_TWICE,
     COST_LAST,
     START_LATER,
+    START_EIGHTS,
+    FULL_EIGHT,
     WRITTEN_TWO,
     WRITTEN_THREE,
     WRITTEN_CUT,
@@ -99,6 +121,36 @@ pub fn met_by_list(list: &Seen) -> BTreeSet<&'static str> {
     met
 }
 
+/// How the bits of a counted list were counted. It tells nothing where one of
+/// the parts has no bit set, for then that one might as well be left out.
+pub fn met_by_count(list: &Seen) -> BTreeSet<&'static str> {
+    let ends = [0, list.cut / 64 * 64, list.cut / 8 * 8, list.cut];
+    let mut parts = 0;
+    for (i, part) in ends.windows(2).enumerate() {
+        if part[0] == part[1] {
+            continue;
+        }
+        if between(list, part[0], part[1]) == 0 {
+            return BTreeSet::new();
+        }
+        parts += 4 >> i;
+    }
+    let mut met = BTreeSet::from([COUNTED[parts]]);
+    if (0..ends[1])
+        .step_by(64)
+        .any(|from| between(list, from, from + 64) == 64)
+    {
+        met.insert(FULL_EIGHT);
+    }
+    met
+}
+
+/// How many slots a list holds above one slot and up to another.
+fn between(list: &Seen, from: u32, to: u32) -> usize {
+    let below = |end: u32| list.held.partition_point(|&slot| slot <= end);
+    below(to) - below(from)
+}
+
 /// What the names and their lists are like.
 pub fn met_by_names(names: &[u32], lists: &[&Seen]) -> BTreeSet<&'static str> {
     let mut met = BTreeSet::new();
@@ -114,6 +166,10 @@ pub fn met_by_names(names: &[u32], lists: &[&Seen]) -> BTreeSet<&'static str> {
     }
     if named.len() < names.len() {
         met.insert(TWICE);
+    }
+    let start = lists.iter().min_by_key(|list| list.held.len());
+    if start.is_some_and(|list| between(list, 0, list.cut / 64 * 64) > 0) {
+        met.insert(START_EIGHTS);
     }
     met
 }
@@ -339,6 +395,31 @@ mod tests {
         assert_eq!(met(&[1, 1, 1, 0]), four);
         let sixteen = BTreeSet::from([COST_ABOVE, COST_THREE, COST_LAST]);
         assert_eq!(met(&[1; 16]), sixteen);
+    }
+
+    #[test]
+    fn how_bits_are_counted() {
+        let met = |cut: u32, slots: &[u32]| met_by_count(&shelf(4, &[(cut, slots)])[0]);
+        let all: Vec<u32> = (1..=100).collect();
+        let full = |what| BTreeSet::from([what, FULL_EIGHT]);
+        assert_eq!(met(0, &all), BTreeSet::from(["counted: no bits"]));
+        assert_eq!(met(7, &all), BTreeSet::from(["counted: bits of a byte"]));
+        assert_eq!(met(8, &all), BTreeSet::from(["counted: bytes"]));
+        let seven = BTreeSet::from(["counted: bytes, bits of a byte"]);
+        assert_eq!(met(63, &all), seven);
+        assert_eq!(met(64, &all), full("counted: eights of bytes"));
+        assert_eq!(met(65, &all), full("counted: eights, bits of a byte"));
+        assert_eq!(met(72, &all), full("counted: eights, bytes"));
+        assert_eq!(
+            met(79, &all),
+            full("counted: eights, bytes, bits of a byte")
+        );
+        let sparse = BTreeSet::from(["counted: eights, bytes, bits of a byte"]);
+        assert_eq!(met(79, &[64, 72, 79]), sparse);
+        // One part is empty: the bits of the last byte, its bytes, its eight.
+        for slots in [[64, 72, 80], [64, 73, 79], [65, 72, 79]] {
+            assert_eq!(met(79, &slots), BTreeSet::new());
+        }
     }
 
     #[test]

@@ -1,5 +1,9 @@
-// One list of the paper's index: a slot tested, its slots counted, where its record lies.
+// One list of the paper's index: a slot tested, its slots counted, where its record lies. Then one list cut in many ways, and counted.
+use sheet::make;
 use sheet::make::PAPER;
+use sheet::make::close_lists;
+use sheet::make::front;
+use sheet::make::put_list;
 use sheet::show::end;
 use sheet::show::flag;
 use sheet::show::label;
@@ -65,10 +69,68 @@ fn damaged() {
     count_list(b"byte 54 is 81, count list 1", &p, 1);
 }
 
+// Every seventh slot, with a cut of its own.
+fn put_sevenths(room: &mut [u8], at: u32, cut: u32) -> u32 {
+    let sevenths = [
+        7u32,
+        14,
+        21,
+        28,
+        35,
+        42,
+        49,
+        56,
+        63,
+        70,
+        77,
+        84,
+        91,
+        98,
+        105,
+        112,
+        119,
+        126,
+        133,
+        140,
+        147,
+        154,
+        161,
+        168,
+        175,
+        182,
+        189,
+        196,
+    ];
+    put_list(room, at, 196, 128, cut, &sevenths)
+}
+
+// Bits are counted by eights of bytes, then by bytes, then by the bits of one: the cuts leave out each of these, or have all. The count is the same.
+fn sevenths() {
+    let mut room = make::room();
+    let to_64 = put_sevenths(&mut room, 0, 63);
+    let to_71 = put_sevenths(&mut room, to_64, 64);
+    let to_72 = put_sevenths(&mut room, to_71, 71);
+    let to_127 = put_sevenths(&mut room, to_72, 72);
+    let to_128 = put_sevenths(&mut room, to_127, 127);
+    let to_196 = put_sevenths(&mut room, to_128, 128);
+    let total = put_sevenths(&mut room, to_196, 196);
+    let starts = [0, to_64, to_71, to_72, to_127, to_128, to_196];
+    let length = close_lists(&mut room, 196, 128, total, &starts);
+    let index = front(&room, length);
+    count_list(b"every seventh slot, cut 63", index, 0);
+    count_list(b"every seventh slot, cut 64", index, 1);
+    count_list(b"every seventh slot, cut 71", index, 2);
+    count_list(b"every seventh slot, cut 72", index, 3);
+    count_list(b"every seventh slot, cut 127", index, 4);
+    count_list(b"every seventh slot, cut 128", index, 5);
+    count_list(b"every seventh slot, cut 196", index, 6);
+}
+
 // All lines of this part, in their order.
 pub fn run() {
     tests();
     counts();
     parts();
     damaged();
+    sevenths();
 }

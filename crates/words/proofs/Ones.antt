@@ -13,7 +13,7 @@ use Rattle.laws.proofs.Bits.{one-more}
 use Rattle.words.specs.Ones.{topOnes}
 
 -- the machine's count of what a shift leaves is the count of the top bits, and at most p
-top-ones : (b p : ℕ) → b < 256 → p ≤ 8 → ones (b / 2 ^ (8 - p)) ≡ topOnes b p
+pub top-ones : (b p : ℕ) → b < 256 → p ≤ 8 → ones (b / 2 ^ (8 - p)) ≡ topOnes b p
 unfolding topOnes ones onesIn
 top-ones b zero h l = let e : b / 256 ≡ 0 = omega arith in ap ones e
 top-ones b (suc p) h l =
@@ -35,7 +35,7 @@ module _ (b p : ℕ) (h : b < 256) (l : p ≤ 8) where
   few = rw counted (top-few b p)
 
 -- p bits behind i whole bytes are those of byte i
-in-byte : (bits : List ℕ) (i p : ℕ) → p ≤ 8
+pub in-byte : (bits : List ℕ) (i p : ℕ) → p ≤ 8
     → length (slotsToCut (8 * i + p) bits) ≡ length (slotsToCut (8 * i) bits) + topOnes (byteAt bits i) p
 unfolding topOnes
 in-byte bits i zero h = let e : 8 * i + 0 ≡ 8 * i = omega arith in rw e (omega arith)
@@ -68,4 +68,4 @@ module _ (bits : List ℕ) where
           let b = in-byte bits i (cut % 8) (omega arith) in
           rw (so, is) (sym b) ∙ ap (λ (m : ℕ). length (slotsToCut m bits)) (sym e)
 
-pub ruleset steps = (begin, turn, even, odd)
+pub ruleset steps = (turn, even, odd)

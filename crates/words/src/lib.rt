@@ -1,7 +1,7 @@
-// Numbers of four bytes, read and written, and the bits of a bit part: one bit, setting one, whether any is set beyond a cut, and how many are
-// set up to it.
+// Numbers of four bytes, read and written, and of eight, read; and the bits of a bit part: one bit, setting one, whether any is set beyond a cut,
+// and how many are set up to it.
 ghost use mathlib.Core.Path.{_≡_};
-ghost use Prim.Native.Nat.{_+_, _*_, _≤_, _<_};
+ghost use Prim.Native.Nat.{_+_, _-_, _*_, _%_, _≤_, _<_};
 ghost use lib.Dec.{ltb};
 ghost use lib.ListN.{length};
 ghost use lib.Seq.{sets};
@@ -24,6 +24,14 @@ pub fn u32_at(s: &[u8], at: usize) -> u32
     ensures { λ r. ⌜ r ≡ u32At (now (s .entry)) at ⌝ }
 {
     byte(s, at) + 256 * byte(s, at + 1) + 65536 * byte(s, at + 2) + 16777216 * byte(s, at + 3)
+}
+
+// The number that the eight bytes from `at` on spell, the lowest byte first.
+fn u64_at(s: &[u8], at: usize) -> u64
+    requires { ⌜ at + 8 ≤ length (now s) ⌝ }
+    ensures { λ r. ⌜ r ≡ u32At (now (s .entry)) at + 4294967296 * u32At (now (s .entry)) (at + 4) ⌝ }
+{
+    u32_at(s, at) as u64 + 4294967296 * (u32_at(s, at + 4) as u64)
 }
 
 // Writes the four bytes of x from `at` on, the lowest byte first.
@@ -80,15 +88,39 @@ fn top_ones(b: u8, p: u32) -> u32
     u32::count_ones((b as u32) >> (8 - p))
 }
 
-// How many bits up to the cut are set: those of the whole bytes, then those of the byte that the cut lies in. Bits behind the cut play no
-// part.
+// How many bits of the eight bytes from `at` on are set: as many as the number that they make has ones. In which of its bytes a bit stands is all
+// the same to their count.
+fn ones_8(bits: &[u8], at: usize) -> u64
+    requires { ⌜ at + 8 ≤ length (now bits) ⌝ }
+    ensures { λ r. ⌜ (length (slotsToCut (8 * (at + 8)) (now (bits .entry))) ≡ length (slotsToCut (8 * at) (now (bits .entry))) + r) × (r ≤ 64) ⌝ }
+{
+    u64::count_ones(u64_at(bits, at)) as u64
+}
+
+// How many bits are set before byte `to`, as far as whole eights of bytes go. The sum is as wide as the numbers that are counted, so that the
+// compiler can count several of them side by side.
+fn ones_by_eights(bits: &[u8], to: usize) -> u64
+    requires { ⌜ (to ≤ length (now bits)) × (to < 536870912) ⌝ }
+    ensures { λ r. ⌜ (r ≡ length (slotsToCut (8 * (to - to % 8)) (now (bits .entry)))) × (r ≤ 8 * (to - to % 8)) ⌝ }
+{
+    let mut ones: u64 = 0;
+    let mut at: usize = 0;
+    while at + 8 <= to {
+        ones = ones + ones_8(bits, at);
+        at = at + 8;
+    }
+    ones
+}
+
+// How many bits up to the cut are set: those of the whole bytes, by eights and then one by one, and those of the byte that the cut lies in. Bits
+// behind the cut play no part.
 pub fn ones_to(bits: &[u8], cut: u32) -> u32
     requires { ⌜ cut ≤ 8 * length (now bits) ⌝ }
     ensures { λ r. ⌜ (r ≡ length (slotsToCut cut (now (bits .entry)))) × (r ≤ cut) ⌝ }
 {
     let whole = (cut / 8) as usize;
-    let mut ones: u32 = 0;
-    let mut i: usize = 0;
+    let mut ones = ones_by_eights(bits, whole) as u32;
+    let mut i = whole - whole % 8;
     while i < whole {
         ones = ones + top_ones(bits[i], 8);
         i = i + 1;

@@ -39,6 +39,15 @@ fn counting(deck: &mut Deck) {
     deck.count("name wild", &paper, WILD);
     let first = with_byte(&paper, 69, 0x10);
     deck.count("list 1 damaged, list 0 named", &first, 0);
+    let slots: Vec<u32> = (7..=140).step_by(7).collect();
+    for (label, cut) in [
+        ("bits of eight bytes, the last within", 63),
+        ("bits of eight bytes, all", 64),
+        ("bits of ten bytes, the last within", 79),
+    ] {
+        let one = index(140, 4, &[record(140, 4, cut, &slots)]);
+        deck.count(label, &one, 0);
+    }
 }
 
 fn lending(deck: &mut Deck) {

@@ -58,6 +58,18 @@ pub fn single_lists(page: &mut Page) {
     let damaged = with_byte(&p, 54, 0x81);
     page.test("byte 54 is 81, slot 5", &damaged, 0, 5);
     page.count("byte 54 is 81, count list 1", &damaged, 1);
+    sevenths(page);
+}
+
+/// One list cut in many ways: at and beside the ends of 8, 9, 16 and all bytes
+/// of its bits.
+fn sevenths(page: &mut Page) {
+    let slots: Vec<u32> = (7..=196).step_by(7).collect();
+    let cuts = [63, 64, 71, 72, 127, 128, 196];
+    let lists = index(196, 128, &cuts.map(|cut| record(196, 128, cut, &slots)));
+    for (list, cut) in (0..).zip(cuts) {
+        page.count(&format!("every seventh slot, cut {cut}"), &lists, list);
+    }
 }
 
 /// The search alone: where every entry is its own position, and in list 0 of

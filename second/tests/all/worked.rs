@@ -32,8 +32,8 @@ fn each_has_its_own_label() {
         .iter()
         .map(|line| line.split_once(": ").expect("a colon").0)
         .collect();
-    assert_eq!(lines.len(), 130);
-    assert_eq!(labels.len(), 130);
+    assert_eq!(lines.len(), 137);
+    assert_eq!(labels.len(), 137);
 }
 
 #[test]
@@ -197,6 +197,20 @@ fn single_lists_of_the_paper() {
         ("part list 2", "11 0 0 0"),
         ("byte 54 is 81, slot 5", "8 0 0"),
         ("byte 54 is 81, count list 1", "8 0 0"),
+    ]);
+}
+
+/// 28 times 7 is 196. Where the list is cut changes nothing.
+#[test]
+fn one_list_cut_in_many_ways() {
+    says(&[
+        ("every seventh slot, cut 63", "0 0 28"),
+        ("every seventh slot, cut 64", "0 0 28"),
+        ("every seventh slot, cut 71", "0 0 28"),
+        ("every seventh slot, cut 72", "0 0 28"),
+        ("every seventh slot, cut 127", "0 0 28"),
+        ("every seventh slot, cut 128", "0 0 28"),
+        ("every seventh slot, cut 196", "0 0 28"),
     ]);
 }
 

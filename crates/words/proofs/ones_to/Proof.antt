@@ -16,6 +16,15 @@ abbrev μ-loop : tie.MeasureT-loop
 cast-whole : tie.Need-cast-whole Inv-loop μ-loop
 cast-whole c = search (steps, needs)
 
+ones-by-eights-requires : tie.Need-ones-by-eights-requires Inv-loop μ-loop
+ones-by-eights-requires c κs = search (steps, needs)
+
+cast-ones : tie.Need-cast-ones Inv-loop μ-loop
+cast-ones c = search (steps, needs)
+
+sub-i : tie.Need-sub-i Inv-loop μ-loop
+sub-i c = search (steps, needs)
+
 loop-holds : tie.Need-loop-holds Inv-loop μ-loop
 loop-holds c = search (steps, needs)
 
@@ -59,6 +68,9 @@ ones-to-spec =
     Inv-loop
     μ-loop
     cast-whole
+    ones-by-eights-requires
+    cast-ones
+    sub-i
     loop-holds
     shared-slice-read-top-ones
     top-ones-requires
