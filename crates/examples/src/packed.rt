@@ -6,13 +6,13 @@ use queries::lists::part_of;
 use queries::lists::test_slot;
 use sheet::make;
 use sheet::make::close_lists;
+use sheet::make::fill;
 use sheet::make::front;
 use sheet::make::put_bits;
 use sheet::make::put_list;
 use sheet::make::put_word;
 use sheet::show::verdict;
 use slots::look;
-use std::num::wrapping_add_u32;
 
 // A slot that the paper's list 0 lacks, sought by skips: its one search gives looks and codes.
 fn sought() {
@@ -35,17 +35,6 @@ fn ties() {
     ask_64(b"ties 1 0", index, 1, &[1, 0]);
     costs_64(b"costs ties 0 1", index, 1, &[0, 1]);
     costs_64(b"costs ties 1 0", index, 1, &[1, 0]);
-}
-
-// Fills a slice with the multiples of `step`, from the first on.
-fn fill(slots: &mut [u32], step: u32) {
-    let mut slot = 0;
-    let mut i = 0;
-    while i < slots.len() {
-        slot = wrapping_add_u32(slot, step);
-        slots[i] = slot;
-        i = i + 1;
-    }
 }
 
 // Three lists whose counts do not rise in the order named: the smallest is tried in the second smallest first.

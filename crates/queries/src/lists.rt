@@ -2,6 +2,7 @@
 use sheet::make;
 use sheet::make::PAPER;
 use sheet::make::close_lists;
+use sheet::make::fill;
 use sheet::make::front;
 use sheet::make::put_list;
 use sheet::show::end;
@@ -69,42 +70,14 @@ fn damaged() {
     count_list(b"byte 54 is 81, count list 1", &p, 1);
 }
 
-// Every seventh slot, with a cut of its own.
+// Every seventh slot up to 196, with the cut that is given.
 fn put_sevenths(room: &mut [u8], at: u32, cut: u32) -> u32 {
-    let sevenths = [
-        7u32,
-        14,
-        21,
-        28,
-        35,
-        42,
-        49,
-        56,
-        63,
-        70,
-        77,
-        84,
-        91,
-        98,
-        105,
-        112,
-        119,
-        126,
-        133,
-        140,
-        147,
-        154,
-        161,
-        168,
-        175,
-        182,
-        189,
-        196,
-    ];
+    let mut sevenths = [0u32; 28];
+    fill(&mut sevenths, 7);
     put_list(room, at, 196, 128, cut, &sevenths)
 }
 
-// Bits are counted by eights of bytes, then by bytes, then by the bits of one: the cuts leave out each of these, or have all. The count is the same.
+// Bits are counted by eights of bytes, then by bytes, then by the bits of one. These cuts have one of the three, two, or all. The count is the same.
 fn sevenths() {
     let mut room = make::room();
     let to_64 = put_sevenths(&mut room, 0, 63);

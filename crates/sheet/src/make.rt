@@ -4,6 +4,7 @@ ghost use mathlib.Core.Path.{_≡_};
 ghost use lib.ListN.{length};
 use slots::close;
 use slots::write;
+use std::num::wrapping_add_u32;
 use words::put_u32;
 
 // The paper's index: list 0 as gaps, list 1 with the cut 16, the directory, the trailer.
@@ -81,6 +82,17 @@ pub fn put_bits(room: &mut [u8], start: u32, at: u32, bits: u8) {
     let to = start as usize + at as usize;
     if to < room.len() {
         room[to] = room[to] | bits;
+    }
+}
+
+// Fills a slice with the multiples of `step`, from the first on.
+pub fn fill(slots: &mut [u32], step: u32) {
+    let mut slot = 0;
+    let mut i = 0;
+    while i < slots.len() {
+        slot = wrapping_add_u32(slot, step);
+        slots[i] = slot;
+        i = i + 1;
     }
 }
 

@@ -2,8 +2,8 @@ use Prim.Native.Nat.{_-_}
 use mathlib.Core.Path.{_≡_}
 use lib.ListN.{length}
 use borrow.Author.Needs.{needs}
-use Rattle.examples.proofs.packed.fill.Statement.{statement}
-use Rattle.examples.proofs.packed.fill.Tie as tie
+use Rattle.sheet.proofs.make.fill.Statement.{statement}
+use Rattle.sheet.proofs.make.fill.Tie as tie
 
 abbrev Inv-loop : tie.InvT-loop
 Inv-loop slots₀ step slot₀ i₀ slots slot i = length slots ≡ length slots₀
