@@ -18,22 +18,22 @@ byte-ones b h = let d : b / 1 ≡ b = omega arith in rw d at (top-ones b 8 h (om
 
 module _ (bits : List ℕ) where
   -- the w bytes from i on have as many set bits as the number v has ones
-  abbrev Counted : ℕ → ℕ → ℕ → Type 0
-  Counted i w v = length (slotsToCut (8 * (i + w)) bits) ≡ length (slotsToCut (8 * i) bits) + ones v
+  abbrev AsMany : ℕ → ℕ → ℕ → Type 0
+  AsMany i w v = length (slotsToCut (8 * (i + w)) bits) ≡ length (slotsToCut (8 * i) bits) + ones v
 
   -- bytes, and those behind them: the number of the first has w bytes, and the second number stands above it
-  join : (i w k v x : ℕ) → v < 2 ^ (8 * w) → Counted i w v → Counted (i + w) k x → Counted i (w + k) (x * 2 ^ (8 * w) + v)
+  join : (i w k v x : ℕ) → v < 2 ^ (8 * w) → AsMany i w v → AsMany (i + w) k x → AsMany i (w + k) (x * 2 ^ (8 * w) + v)
   join i w k v x l p q =
       let e : i + (w + k) ≡ i + w + k = omega arith in
       rw (e, ones-cat (8 * w) x v l) (omega arith)
 
   module _ (all : AllBytes bits) where
-    one : (i : ℕ) → Counted i 1 (byteAt bits i)
+    one : (i : ℕ) → AsMany i 1 (byteAt bits i)
     one i =
         let e : 8 * (i + 1) ≡ 8 * i + 8 = omega arith in
         rw (e, byte-ones (byteAt bits i) (all i)) (in-byte bits i 8 (omega arith))
 
-    four : (i : ℕ) → Counted i 4 (u32At bits i)
+    four : (i : ℕ) → AsMany i 4 (u32At bits i)
     unfolding u32At
     four i =
         let b₀ = byteAt bits i in
@@ -49,7 +49,7 @@ module _ (bits : List ℕ) where
         let e : b₃ * 16777216 + (b₂ * 65536 + (b₁ * 256 + b₀)) ≡ b₀ + 256 * b₁ + 65536 * b₂ + 16777216 * b₃ = omega arith in
         rw e at all-four
 
-    pub eight : (i : ℕ) → Counted i 8 (u32At bits i + 4294967296 * u32At bits (i + 4))
+    pub eight : (i : ℕ) → AsMany i 8 (u32At bits i + 4294967296 * u32At bits (i + 4))
     eight i =
         let e : u32At bits (i + 4) * 4294967296 + u32At bits i ≡ u32At bits i + 4294967296 * u32At bits (i + 4) = omega arith in
         rw e at (join i 4 4 (u32At bits i) (u32At bits (i + 4)) (word-bound bits i all) (four i) (four (i + 4)))
