@@ -8,6 +8,7 @@
 #include <stdint.h>
 #include <stdio.h>
 #include <stdlib.h>
+#include <string.h>
 #include <time.h>
 
 #include "slots.h"
@@ -15,6 +16,7 @@
 enum { BITS = SLOTS_MOST_SLOTS / 8, HEAD = 12, INDEX = HEAD + BITS + 4 + 24, CALLS = 500, ROUNDS = 101 };
 
 typedef uint32_t counting(const uint8_t *, size_t, uint32_t, uint64_t *, size_t);
+extern counting slots_count; /* as the header has it, or this does not compile */
 
 static uint8_t index_bytes[INDEX];
 
@@ -35,16 +37,16 @@ static uint64_t make(void) {
     uint8_t *at = put(index_bytes + HEAD + BITS, 0);
     const uint32_t trailer[] = {1, SLOTS_MOST_SLOTS, 128, 1, HEAD + BITS};
     for (int i = 0; i < 5; i++) at = put(at, trailer[i]);
-    const uint8_t tag[] = {'S', 'L', 'O', 'T'};
-    for (int i = 0; i < 4; i++) at[i] = tag[i];
+    memcpy(at, "SLOT", 4);
     return set;
 }
 
 static counting *load(const char *path) {
     void *library = dlopen(path, RTLD_NOW);
-    counting *count = NULL;
-    if (library != NULL) *(void **)&count = dlsym(library, "slots_count");
-    if (count == NULL) fprintf(stderr, "speed: %s\n", dlerror()), exit(2);
+    void *symbol = library == NULL ? NULL : dlsym(library, "slots_count");
+    if (symbol == NULL) fprintf(stderr, "speed: %s\n", dlerror()), exit(2);
+    counting *count;
+    memcpy(&count, &symbol, sizeof count);
     return count;
 }
 
@@ -82,6 +84,6 @@ int main(int argc, char **argv) {
         ratios[i] = i % 2 == 0 ? second / first : first / second;
     }
     qsort(ratios, ROUNDS, sizeof ratios[0], by_size);
-    printf("%.2f times as long (half of %d rounds: %.2f to %.2f)\n", ratios[ROUNDS / 2], ROUNDS, ratios[ROUNDS / 4], ratios[ROUNDS - 1 - ROUNDS / 4]);
+    printf("the other takes %.2f times as long (the middle half of %d rounds: %.2f to %.2f)\n", ratios[ROUNDS / 2], ROUNDS, ratios[ROUNDS / 4], ratios[ROUNDS - 1 - ROUNDS / 4]);
     return 0;
 }

@@ -1,5 +1,5 @@
 //! The walk of a question by skips, step by step as the paper tells it, with a
-//! note of what was met on the way.
+//! note of what was met on the way; and what a list that is counted is like.
 
 use crate::read::Seen;
 use std::collections::BTreeSet;
@@ -28,7 +28,7 @@ pub const COST_LAST: &str = "sixteen names, a cost at the last";
 pub const START_LATER: &str = "the starting list isn't the first name";
 
 // Where bits go by eights of bytes, then bytes, then bits of a byte.
-pub const START_EIGHTS: &str = "the starting list has slots in eights of bytes";
+pub const START_EIGHTS: &str = "another list would start without its eights";
 pub const FULL_EIGHT: &str = "counted: eight bytes of ones";
 /// The parts of a list's bits that were counted, by whether there are eights
 /// (4), bytes (2) and bits (1).
@@ -145,6 +145,11 @@ pub fn met_by_count(list: &Seen) -> BTreeSet<&'static str> {
     met
 }
 
+/// The position of the smallest count, the first of several.
+fn smallest(counts: &[usize]) -> Option<usize> {
+    (0..counts.len()).min_by_key(|&position| counts[position])
+}
+
 /// How many slots a list holds above one slot and up to another.
 fn between(list: &Seen, from: u32, to: u32) -> usize {
     let below = |end: u32| list.held.partition_point(|&slot| slot <= end);
@@ -167,8 +172,9 @@ pub fn met_by_names(names: &[u32], lists: &[&Seen]) -> BTreeSet<&'static str> {
     if named.len() < names.len() {
         met.insert(TWICE);
     }
-    let start = lists.iter().min_by_key(|list| list.held.len());
-    if start.is_some_and(|list| between(list, 0, list.cut / 64 * 64) > 0) {
+    let behind = |list: &Seen| between(list, list.cut / 64 * 64, u32::MAX);
+    let without: Vec<usize> = lists.iter().map(|&list| behind(list)).collect();
+    if smallest(&counts) != smallest(&without) {
         met.insert(START_EIGHTS);
     }
     met
@@ -416,10 +422,29 @@ mod tests {
         );
         let sparse = BTreeSet::from(["counted: eights, bytes, bits of a byte"]);
         assert_eq!(met(79, &[64, 72, 79]), sparse);
-        // One part is empty: the bits of the last byte, its bytes, its eight.
+        // One part is empty: the bits of the last byte, the bytes, the eight.
         for slots in [[64, 72, 80], [64, 73, 79], [65, 72, 79]] {
             assert_eq!(met(79, &slots), BTreeSet::new());
         }
+    }
+
+    #[test]
+    fn which_list_starts() {
+        // Of the first list's three slots two stand in an eight, of the other's
+        // two none.
+        let few: (u32, &[u32]) = (64, &[1, 64, 65]);
+        let fewer: (u32, &[u32]) = (63, &[1, 63]);
+        let met = |lists: &[(u32, &[u32])]| {
+            let lists = shelf(4, lists);
+            let named: Vec<&Seen> = lists.iter().collect();
+            let names: Vec<u32> = (0..lists.len() as u32).collect();
+            met_by_names(&names, &named).contains(START_EIGHTS)
+        };
+        assert!(met(&[few, fewer]));
+        assert!(met(&[fewer, few]));
+        assert!(!met(&[few]));
+        assert!(!met(&[fewer, fewer]));
+        assert!(!met(&[few, few]));
     }
 
     #[test]

@@ -1,3 +1,3 @@
-// Examples that take an index as it is: it is asked, tested, counted. A library beside the program of examples, so that each stays quick to prove.
+// Examples in which an index is asked, tested or counted. A library beside the program of examples, so that each stays quick to prove.
 pub mod asking;
 pub mod lists;

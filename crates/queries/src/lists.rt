@@ -70,7 +70,7 @@ fn damaged() {
     count_list(b"byte 54 is 81, count list 1", &p, 1);
 }
 
-// Every seventh slot up to 196, with the cut that is given.
+// Writes the list of every seventh slot up to 196, with the cut that is given, behind the first `at` bytes, and tells where it ends.
 fn put_sevenths(room: &mut [u8], at: u32, cut: u32) -> u32 {
     let mut sevenths = [0u32; 28];
     fill(&mut sevenths, 7);

@@ -1,20 +1,21 @@
 -- Set bits counted in several bytes at once: they are the ones of the number that the bytes spell.
 use Prim.Native.Nat.{ℕ, _+_, _-_, _*_, _/_, _%_, _^_, _≤_, _<_}
-use mathlib.Core.Path.{_≡_}
+use mathlib.Core.Path.{_≡_, refl, sym}
 use mathlib.Core.List.{List}
 use native.Mathlib.Omega.{arith}
 use lib.ListN.{length}
 use lib.Count.{ones, ones-cat}
 use Rattle.paper.specs.Bytes.{byteAt, u32At}
+use Rattle.paper.specs.Lists.{keep, upFrom}
 use Rattle.paper.specs.Record.{slotsToCut}
 use Rattle.laws.proofs.Parts.{AllBytes}
 use Rattle.laws.proofs.Words.{word-bound}
 use Rattle.words.specs.Ones.{topOnes}
-use Rattle.words.proofs.Ones.{top-ones, in-byte}
+use Rattle.words.proofs.Ones.{counted, turn}
 
 -- all ones of a byte. `topOnes` stays shut: at the numeral 8 it would compute
 byte-ones : (b : ℕ) → b < 256 → ones b ≡ topOnes b 8
-byte-ones b h = let d : b / 1 ≡ b = omega arith in rw d at (top-ones b 8 h (omega arith))
+byte-ones b h = let d : b / 1 ≡ b = omega arith in rw d at (counted b 8 h (omega arith))
 
 module _ (bits : List ℕ) where
   -- the w bytes from i on have as many set bits as the number v has ones
@@ -29,9 +30,7 @@ module _ (bits : List ℕ) where
 
   module _ (all : AllBytes bits) where
     one : (i : ℕ) → AsMany i 1 (byteAt bits i)
-    one i =
-        let e : 8 * (i + 1) ≡ 8 * i + 8 = omega arith in
-        rw (e, byte-ones (byteAt bits i) (all i)) (in-byte bits i 8 (omega arith))
+    one i = sym (turn bits i _ (ones (byteAt bits i)) refl (byte-ones (byteAt bits i) (all i)))
 
     four : (i : ℕ) → AsMany i 4 (u32At bits i)
     unfolding u32At
@@ -54,7 +53,12 @@ module _ (bits : List ℕ) where
         let e : u32At bits (i + 4) * 4294967296 + u32At bits i ≡ u32At bits i + 4294967296 * u32At bits (i + 4) = omega arith in
         rw e at (join i 4 4 (u32At bits i) (u32At bits (i + 4)) (word-bound bits i all) (four i) (four (i + 4)))
 
-  -- the loop over eights: where no further eight ends by `to`, all whose last byte lies before it are counted
+  -- the loop over eights: before the first of them nothing is counted
+  pub eights-begin : 0 ≡ length (slotsToCut (8 * 0) bits)
+  unfolding slotsToCut keep upFrom
+  eights-begin = refl
+
+  -- where no further one ends by `to`, all whose last byte lies before it are
   module _ (at n to : ℕ) (so : n ≡ length (slotsToCut (8 * at) bits)) where
     pub eights-end : at % 8 ≡ 0 → at ≤ to → to < at + 8 → n ≡ length (slotsToCut (8 * (to - to % 8)) bits)
     eights-end z l h = let e : at ≡ to - to % 8 = omega arith in rw (← e) so

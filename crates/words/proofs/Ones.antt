@@ -1,19 +1,18 @@
 -- Set bits counted byte by byte.
 use Prim.Native.Nat.{ℕ, zero, suc, _+_, _-_, _*_, _/_, _%_, _^_, _≤_, _<_}
-use mathlib.Core.Path.{_≡_, refl, sym, ap, _∙_}
+use mathlib.Core.Path.{_≡_, sym, ap, _∙_}
 use mathlib.Core.List.{List}
 use native.Mathlib.Omega.{arith}
 use lib.ListN.{length}
 use lib.Pow.{shr-shr}
 use lib.Count.{ones, onesIn, ones-step}
 use Rattle.paper.specs.Bytes.{byteAt}
-use Rattle.paper.specs.Lists.{keep, upFrom}
 use Rattle.paper.specs.Record.{slotsToCut}
 use Rattle.laws.proofs.Bits.{one-more}
 use Rattle.words.specs.Ones.{topOnes}
 
 -- the machine's count of what a shift leaves is the count of the top bits, and at most p
-pub top-ones : (b p : ℕ) → b < 256 → p ≤ 8 → ones (b / 2 ^ (8 - p)) ≡ topOnes b p
+top-ones : (b p : ℕ) → b < 256 → p ≤ 8 → ones (b / 2 ^ (8 - p)) ≡ topOnes b p
 unfolding topOnes ones onesIn
 top-ones b zero h l = let e : b / 256 ≡ 0 = omega arith in ap ones e
 top-ones b (suc p) h l =
@@ -35,7 +34,7 @@ module _ (b p : ℕ) (h : b < 256) (l : p ≤ 8) where
   few = rw counted (top-few b p)
 
 -- p bits behind i whole bytes are those of byte i
-pub in-byte : (bits : List ℕ) (i p : ℕ) → p ≤ 8
+in-byte : (bits : List ℕ) (i p : ℕ) → p ≤ 8
     → length (slotsToCut (8 * i + p) bits) ≡ length (slotsToCut (8 * i) bits) + topOnes (byteAt bits i) p
 unfolding topOnes
 in-byte bits i zero h = let e : 8 * i + 0 ≡ 8 * i = omega arith in rw e (omega arith)
@@ -47,10 +46,6 @@ in-byte bits i (suc p) h =
 
 -- the loop over whole bytes, and the byte that the cut lies in
 module _ (bits : List ℕ) where
-  pub begin : 0 ≡ length (slotsToCut (8 * 0) bits)
-  unfolding slotsToCut keep upFrom
-  begin = refl
-
   module _ (i n r : ℕ) (so : n ≡ length (slotsToCut (8 * i) bits)) where
     pub turn : r ≡ topOnes (byteAt bits i) 8 → n + r ≡ length (slotsToCut (8 * (i + 1)) bits)
     turn is =

@@ -97,8 +97,8 @@ fn ones_8(bits: &[u8], at: usize) -> u64
     u64::count_ones(u64_at(bits, at)) as u64
 }
 
-// How many bits are set before byte `to`, as far as whole eights of bytes go. (A cut has fewer than 536,870,912 whole bytes, whatever it is.) The sum
-// is as wide as the numbers that are counted, so that the compiler can count several of them side by side.
+// How many bits are set before byte `to`, as far as whole eights of bytes go. The bound on `to` keeps the sum in its type; no cut has more whole
+// bytes. The sum is as wide as the numbers that are counted: the compiler counts several side by side, and would have to narrow each count.
 fn ones_by_eights(bits: &[u8], to: usize) -> u64
     requires { ⌜ (to ≤ length (now bits)) × (to < 536870912) ⌝ }
     ensures { λ r. ⌜ (r ≡ length (slotsToCut (8 * (to - to % 8)) (now (bits .entry)))) × (r ≤ 8 * (to - to % 8)) ⌝ }

@@ -43,7 +43,8 @@ fn costs(page: &mut Page, p: &[u8], alternating: &[u32]) {
     page.costs("costs byte 54 is 81", &damaged, SKIPS, &[0, 1], ROOM);
 }
 
-/// Testing, counting and lending, on the paper's index and on a damaged one.
+/// Testing, counting and lending, on the paper's index and on a damaged one;
+/// and counting one list that is cut in many ways.
 pub fn single_lists(page: &mut Page) {
     let p = paper();
     for (slot, list) in [(32, 0), (0, 0), (33, 0), (30, 1), (1, 2)] {
@@ -61,8 +62,8 @@ pub fn single_lists(page: &mut Page) {
     sevenths(page);
 }
 
-/// One list cut in many ways: at and beside the ends of 8, 9, 16 and all bytes
-/// of its bits.
+/// One list cut in many ways: at and beside the ends of 8, 9 and 16 bytes of
+/// bits, and at u.
 fn sevenths(page: &mut Page) {
     let slots: Vec<u32> = (7..=196).step_by(7).collect();
     let cuts = [63, 64, 71, 72, 127, 128, 196];

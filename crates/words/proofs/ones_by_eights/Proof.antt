@@ -2,8 +2,7 @@ use Prim.Native.Nat.{_-_, _*_, _%_, _≤_}
 use mathlib.Core.Path.{_≡_}
 use lib.ListN.{length}
 use Rattle.paper.specs.Record.{slotsToCut}
-use Rattle.words.proofs.Ones.{begin}
-use Rattle.words.proofs.Eights.{eights-end}
+use Rattle.words.proofs.Eights.{eights-begin, eights-end}
 use borrow.Author.Needs.{needs}
 use Rattle.words.proofs.ones_by_eights.Statement.{statement}
 use Rattle.words.proofs.ones_by_eights.Tie as tie
@@ -15,7 +14,7 @@ abbrev μ-loop : tie.MeasureT-loop
 μ-loop bits to ones₀ at₀ ones at = to - at
 
 loop-holds : tie.Need-loop-holds Inv-loop μ-loop
-loop-holds c = search (needs, begin)
+loop-holds c = search (needs, eights-begin)
 
 add-loop : tie.Need-add-loop Inv-loop μ-loop
 add-loop c = search needs
