@@ -1,4 +1,4 @@
-/* slots.h: an index of packed lists of slots: looked at, asked, tested, counted, lent from, written and closed.
+/* slots.h: an index of packed lists of slots: looked at, asked, tested, counted, lent from, measured, written and closed.
  *
  * Link with build/libslots.a or build/libslots.so, which ./build-lib makes. Both are for Linux on x86-64; of the C library they need memset alone.
  * (On another machine build/native has the same two for trying things out.) This header is C99 and C++98, or newer. docs/FORMAT.md has the
@@ -33,7 +33,8 @@ extern "C" {
 /* A length has 64 bits in the library: where size_t has fewer, this does not compile. */
 typedef char slots_size_has_64_bits[sizeof(size_t) == 8 ? 1 : -1];
 
-/* The most that an index can have, and a question. A record that slots_write makes is never longer than SLOTS_MOST_RECORD. */
+/* The most that an index can have, and a question. A record that slots_write makes is never longer than SLOTS_MOST_RECORD; for a list at hand
+ * slots_bound tells a closer number. */
 enum {
     SLOTS_MOST_BYTES = 16777216, /* of an index */
     SLOTS_MOST_SLOTS = 1048576,  /* u */
@@ -58,7 +59,7 @@ enum slots_refusal {
     SLOTS_BAD_NAMES = 10,  /* the question has no name, or more than 16 */
     SLOTS_NO_LIST = 11,    /* there is no list of that name; place: the position of the first such name, 0 where the call has one name */
     SLOTS_NO_ROOM = 12,    /* the room is too small; place: the room needed, in slots for slots_ask and in bytes for the others */
-    SLOTS_NOT_RISING = 13, /* the slots to be written do not rise strictly within 1..u; place: the position of the first bad one */
+    SLOTS_NOT_RISING = 13, /* the slots to be written do not rise strictly within 1..u, or more are to lie above the cut than there are; place: the position of the first bad one, 0 for slots_bound */
     SLOTS_BAD_WAY = 14,    /* the way is neither 0 (plain) nor 1 (by skips) */
     SLOTS_BAD_CUT = 15,    /* the cut is above u */
     SLOTS_OUTSIDE = 16,    /* the slot to be tested is not in 1..u */
@@ -123,13 +124,26 @@ uint32_t slots_count(const uint8_t *index, size_t index_len, uint32_t name, uint
 enum slots_lend_field { SLOTS_LEND_START, SLOTS_LEND_LENGTH, SLOTS_LEND_FIELDS };
 uint32_t slots_lend(const uint8_t *index, size_t index_len, uint32_t name, uint64_t *out, size_t out_len);
 
+/* slots_bound: how many bytes a record can need, told before it is written.
+ *
+ * `u`, `block` and `cut` are those that slots_write is to be given, and `n` is how many of the slots to be written lie above the cut.
+ * Refuses, in this order: 4 (u or block), 15, 13. Here 13 says that n is above u - cut, so that so many slots cannot lie above the cut; its place is 0.
+ * Accepted: with m = n / block, rounded up, which is how many blocks these slots make, and U = u - cut, `bytes` is
+ *     12 + cut / 8 (rounded up) + 8 * m + (n - m) + U / 129 (rounded down) + U / 16385 (rounded down).
+ * No record that slots_write makes with this u, block and cut, of slots of which n lie above the cut, is longer. Some lists reach it, others do not.
+ * So a `room` of that length is never refused with 12. Reserve it, then write once, in place of a first call with no room that only tells the
+ * length: the `length` that slots_write answers is what the record has taken of the room. */
+enum slots_bound_field { SLOTS_BOUND_NUMBER, SLOTS_BOUND_PLACE, SLOTS_BOUND_BYTES, SLOTS_BOUND_FIELDS };
+uint32_t slots_bound(uint32_t u, uint32_t block, uint32_t cut, uint32_t n, uint64_t *out, size_t out_len);
+
 /* slots_write: the record of one list, at the front of `room`.
  *
  * `block` is the B of the index to come. `slots` are the list, lowest first, each once; there may be none. Those up to `cut` are packed
  * as bits and the others as gaps, which changes the bytes and the cost of a search, never what the list holds: 0 is gaps alone, u bits alone.
  * Bits beyond the cut, in the last byte of bits, are 0. In an index with this u and block, it is the only record with this cut and these slots
  * that slots_look accepts.
- * Refuses, in this order: 4 (u or block), 15, 13, 12 (place: the length of the record; so a `room` of length 0 is a way to learn it).
+ * Refuses, in this order: 4 (u or block), 15, 13, 12 (place: the length of the record; so a `room` of length 0 is a way to learn it. One of as many
+ * bytes as slots_bound tells is never too small).
  * Accepted: the first `length` bytes of `room` are the record; every byte behind them is as it was. */
 enum slots_write_field { SLOTS_WRITE_NUMBER, SLOTS_WRITE_PLACE, SLOTS_WRITE_LENGTH, SLOTS_WRITE_FIELDS };
 uint32_t slots_write(uint32_t u, uint32_t block, uint32_t cut, const uint32_t *slots, size_t slots_len,
@@ -162,7 +176,7 @@ static inline const char *slots_reason(uint32_t number) {
         "the question has no name, or more than 16",
         "there is no list of that name",
         "the room is too small",
-        "the slots to be written do not rise strictly within 1..u",
+        "the slots to be written do not rise strictly within 1..u, or more are to lie above the cut than there are",
         "the way is neither 0 (plain) nor 1 (by skips)",
         "the cut is above u",
         "the slot to be tested is not in 1..u",

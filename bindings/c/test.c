@@ -1,5 +1,5 @@
-/* Calls every function of slots.h as a program in C does: the example index of docs/FORMAT.md is written, closed, looked at, asked, tested, counted
- * and lent from, and some calls are refused. The answers expected are those that docs/FORMAT.md tells, or can be read off it.
+/* Calls every function of slots.h as a program in C does: the example index of docs/FORMAT.md is measured, written, closed, looked at, asked, tested,
+ * counted and lent from, and some calls are refused. The answers expected are those that docs/FORMAT.md tells, or can be read off it.
  * The number of checks is printed at the end; the status is 1 where one failed. */
 #include <stdio.h>
 #include <string.h>
@@ -173,6 +173,93 @@ static void bits_beyond_the_cut(uint8_t *index, size_t size) {
     index[68] = 0x11;
 }
 
+/* What slots_bound tells, all fields of it, also on refusal. */
+static void bound_is(uint32_t u, uint32_t block, uint32_t cut, uint32_t n, uint32_t number, uint64_t bytes) {
+    uint64_t out[SLOTS_BOUND_FIELDS + 1] = {99, 99, 99, 99};
+    IS(slots_bound(u, block, cut, n, out, SLOTS_BOUND_FIELDS), number);
+    IS(out[SLOTS_BOUND_NUMBER], number);
+    IS(out[SLOTS_BOUND_PLACE], 0);
+    IS(out[SLOTS_BOUND_BYTES], bytes);
+    IS(out[SLOTS_BOUND_FIELDS], 99);
+}
+
+/* How many bytes a record can need, summed up by hand. */
+static void bounds(void) {
+    bound_is(32, 4, 0, 15, SLOTS_ACCEPTED, 12 + 4 * 8 + 11); /* list 0 of the example: 55, which is its length */
+    bound_is(32, 4, 16, 3, SLOTS_ACCEPTED, 12 + 2 + 8 + 2);  /* list 1: 24, likewise */
+    bound_is(32, 4, 16, 16, SLOTS_ACCEPTED, 12 + 2 + 4 * 8 + 12);
+    bound_is(32, 4, 32, 0, SLOTS_ACCEPTED, 12 + 4); /* bits alone */
+    bound_is(32, 4, 9, 0, SLOTS_ACCEPTED, 12 + 2);
+    bound_is(1, 1, 0, 0, SLOTS_ACCEPTED, 12);
+    bound_is(1, 1, 0, 1, SLOTS_ACCEPTED, 12 + 8);
+    bound_is(130, 128, 0, 2, SLOTS_ACCEPTED, 12 + 8 + 1 + 1);
+    bound_is(128, 1, 0, 0, SLOTS_ACCEPTED, 12); /* without a slot, the last two terms stay */
+    bound_is(129, 1, 0, 0, SLOTS_ACCEPTED, 12 + 1);
+    bound_is(16384, 1, 0, 0, SLOTS_ACCEPTED, 12 + 127);
+    bound_is(16385, 1, 0, 0, SLOTS_ACCEPTED, 12 + 127 + 1);
+    bound_is(16385, 1, 1, 0, SLOTS_ACCEPTED, 12 + 1 + 127); /* they go by u - cut */
+    bound_is(SLOTS_MOST_SLOTS, 1, 0, SLOTS_MOST_SLOTS, SLOTS_ACCEPTED, 8396811); /* 12 + 8 * 1048576 + 8128 + 63 */
+    bound_is(SLOTS_MOST_SLOTS, 128, 0, SLOTS_MOST_SLOTS, SLOTS_ACCEPTED, 12 + 8192 * 8 + 8192 * 127 + 8128 + 63);
+    bound_is(SLOTS_MOST_SLOTS, 128, SLOTS_MOST_SLOTS, 0, SLOTS_ACCEPTED, 12 + 131072);
+}
+
+/* Everything is wrong at first, and then one thing after the other is put right. */
+static void bounds_refused(void) {
+    bound_is(0, 0, UINT32_MAX, UINT32_MAX, SLOTS_BAD_RANGE, 0);
+    bound_is(SLOTS_MOST_SLOTS + 1, 4, UINT32_MAX, UINT32_MAX, SLOTS_BAD_RANGE, 0);
+    bound_is(UINT32_MAX, 4, 0, 0, SLOTS_BAD_RANGE, 0);
+    bound_is(32, 0, UINT32_MAX, UINT32_MAX, SLOTS_BAD_RANGE, 0);
+    bound_is(32, 129, 33, 33, SLOTS_BAD_RANGE, 0);
+    bound_is(32, 4, UINT32_MAX, UINT32_MAX, SLOTS_BAD_CUT, 0);
+    bound_is(32, 4, 33, 0, SLOTS_BAD_CUT, 0);
+    bound_is(32, 4, 32, UINT32_MAX, SLOTS_NOT_RISING, 0);
+    bound_is(32, 4, 32, 1, SLOTS_NOT_RISING, 0);
+    bound_is(32, 4, 16, 17, SLOTS_NOT_RISING, 0);
+    bound_is(32, 4, 0, 33, SLOTS_NOT_RISING, 0);
+    bound_is(32, 4, 0, 32, SLOTS_ACCEPTED, 12 + 8 * 8 + 24);
+}
+
+/* Writes these slots into exactly as many bytes as slots_bound tells, which for all lists below is less than the room here: the record has `length`
+ * bytes, and what stands behind them stays. */
+static void reserved(uint32_t u, uint32_t block, uint32_t cut, const uint32_t *slots, size_t many, uint64_t length) {
+    uint8_t room[64];
+    uint64_t out[SLOTS_WRITE_FIELDS];
+    uint32_t n = 0;
+    for (size_t i = 0; i < many; i++) n += slots[i] > cut;
+    IS(slots_bound(u, block, cut, n, out, SLOTS_BOUND_FIELDS), SLOTS_ACCEPTED);
+    size_t bytes = (size_t)out[SLOTS_BOUND_BYTES];
+    IS(bytes < sizeof room, 1);
+    if (bytes >= sizeof room) return;
+    memset(room, 0xAA, sizeof room);
+    IS(slots_write(u, block, cut, slots, many, room, bytes, out, SLOTS_WRITE_FIELDS), SLOTS_ACCEPTED);
+    IS(out[SLOTS_WRITE_LENGTH], length);
+    for (size_t i = (size_t)length; i < sizeof room; i++) IS(room[i], 0xAA);
+}
+
+static void reserve_then_write(void) {
+    const uint32_t far[] = {1, 130}; /* the code of 130 has two bytes, and the bound is reached: 22 */
+    const uint32_t near[] = {1, 129, 130};
+    reserved(32, 4, 0, list_0, 15, 55);
+    reserved(32, 4, 16, list_1, 7, 24);
+    reserved(130, 128, 0, far, 2, 12 + 8 + 2);
+    reserved(130, 128, 0, near, 3, 12 + 8 + 2); /* one less than the 23 that are reserved */
+    reserved(130, 128, 129, near, 3, 12 + 17 + 8);
+    reserved(300, 128, 0, NULL, 0, 12);
+}
+
+/* `out` takes what fits of a bound, and what stands behind stays. */
+static void shorter_bound(size_t length) {
+    const uint64_t whole[SLOTS_BOUND_FIELDS] = {0, 0, 24};
+    const uint64_t refused[SLOTS_BOUND_FIELDS] = {13, 0, 0};
+    uint64_t out[SLOTS_BOUND_FIELDS + 1];
+    memset(out, 0xAA, sizeof out);
+    IS(slots_bound(32, 4, 16, 3, out, length), SLOTS_ACCEPTED);
+    for (size_t i = 0; i <= SLOTS_BOUND_FIELDS; i++) IS(out[i], i < length && i < SLOTS_BOUND_FIELDS ? whole[i] : 0xAAAAAAAAAAAAAAAA);
+    memset(out, 0xAA, sizeof out);
+    IS(slots_bound(32, 4, 16, 17, out, length), SLOTS_NOT_RISING);
+    for (size_t i = 0; i <= SLOTS_BOUND_FIELDS; i++) IS(out[i], i < length && i < SLOTS_BOUND_FIELDS ? refused[i] : 0xAAAAAAAAAAAAAAAA);
+}
+
 /* `out` takes what fits, and what stands behind the fields stays. An empty slice may be null. */
 static void edges(const uint8_t *index, size_t size) {
     uint64_t out[SLOTS_COUNT_FIELDS + 1] = {99, 99, 99, 99};
@@ -188,6 +275,7 @@ static void edges(const uint8_t *index, size_t size) {
     IS(slots_test(NULL, 0, 0, 1, NULL, 0), SLOTS_BAD_SIZE);
     IS(slots_count(NULL, 0, 0, NULL, 0), SLOTS_BAD_SIZE);
     IS(slots_lend(NULL, 0, 0, NULL, 0), 0);
+    IS(slots_bound(32, 4, 0, 0, NULL, 0), SLOTS_ACCEPTED);
     IS(slots_write(32, 4, 0, NULL, 0, NULL, 0, NULL, 0), SLOTS_NO_ROOM);
     IS(slots_close(NULL, 0, 32, 4, 0, NULL, 0, NULL, 0), SLOTS_BAD_RANGE);
 }
@@ -221,6 +309,10 @@ int main(void) {
     shorter_out(room, size, 23);
     shorter_out(room, size, SLOTS_ASK_FIELDS);
     shorter_out(room, size, SLOTS_ASK_FIELDS + 1);
+    bounds();
+    bounds_refused();
+    reserve_then_write();
+    for (size_t length = 0; length <= SLOTS_BOUND_FIELDS + 1; length++) shorter_bound(length);
     IS(strcmp(slots_reason(SLOTS_BAD_CUT), "the cut is above u"), 0);
     IS(strcmp(slots_reason(SLOTS_BAD_BITS), "a bit beyond the cut is set"), 0);
     IS(strcmp(slots_reason(SLOTS_BAD_BITS + 1), "a number that this header does not know"), 0);

@@ -1,7 +1,7 @@
 """Lists of slots in a text, packed into an index: each list gets the cut that makes its record smallest.
 
 `FORMAT` says how the text is written. One list at a time is held as slots, and only its record is kept, so that no text
-takes much memory, whatever it says.
+takes much memory, whatever it says. `slots.record` reserves the room of each by `slots.bound`, and writes it once.
 """
 from __future__ import annotations
 
@@ -142,7 +142,7 @@ class _Sheet:
         self.total += length
         if self.total + 4 * (len(self.records) + 1) + TRAILER > MOST_BYTES:
             raise Wrong(f"with this list the index would have more than {MOST_BYTES:,} bytes")
-        self.records.append(record(u, block, cut, slots))
+        self.records.append(record(u, block, cut, slots))  # in a room that slots.bound tells
 
     def _number(self, word: str) -> int:
         if word not in self.numbers:

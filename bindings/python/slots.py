@@ -1,4 +1,4 @@
-"""The library of packed lists of slots, for Python: look, ask, test, count, lend, write and close.
+"""The library of packed lists of slots, for Python: look, ask, test, count, lend, bound, write and close.
 
 A rack has slots numbered 1 to u. A list is a set of slots, and an index packs up to 4,096 lists, numbered from 0, into one run of bytes
 (docs/FORMAT.md has the format). Each function here hands its arguments to the C function of the same name (include/slots.h), which is proved: an answer is
@@ -29,6 +29,7 @@ repository's build/ on x86-64 and build/native/ on other machines; `NoLibrary` s
 """
 from __future__ import annotations
 
+import bisect
 import ctypes
 import enum
 import functools
@@ -43,9 +44,9 @@ from dataclasses import dataclass
 from typing import TYPE_CHECKING, Callable, Dict, Iterable, Iterator, List, Optional, Tuple, Union
 
 __all__ = [
-    "Answer", "Bytes", "Counted", "Lent", "NoLibrary", "Refusal", "Refused", "Room", "Tested", "Way", "Written",
+    "Answer", "Bound", "Bytes", "Counted", "Lent", "NoLibrary", "Refusal", "Refused", "Room", "Tested", "Way", "Written",
     "MOST_BLOCK", "MOST_BYTES", "MOST_LISTS", "MOST_NAMES", "MOST_RECORD", "MOST_SLOTS",
-    "ask", "close", "count", "index_of", "lend", "look", "record", "test", "write",
+    "ask", "bound", "close", "count", "index_of", "lend", "look", "record", "test", "write",
 ]
 
 if TYPE_CHECKING:
@@ -62,7 +63,7 @@ MOST_SLOTS = 1_048_576    # u
 MOST_BLOCK = 128          # B
 MOST_LISTS = 4_096        # k
 MOST_NAMES = 16           # in one question
-MOST_RECORD = 11_665_420  # bytes of a record that write makes
+MOST_RECORD = 11_665_420  # bytes of a record that write makes; for a list at hand bound tells a closer number
 
 _ASK_FIELDS = 5 + 2 * MOST_NAMES  # the last are the looks of each position, and then the codes of each
 _UNWRITTEN = 2**64 - 1  # what a field holds before a call; no answer has it
@@ -112,7 +113,7 @@ _REASONS: Dict[int, str] = {
     Refusal.BAD_NAMES: "the question has no name, or more than 16",
     Refusal.NO_LIST: "there is no list of that name",
     Refusal.NO_ROOM: "the room is too small",
-    Refusal.NOT_RISING: "the slots to be written do not rise strictly within 1..u",
+    Refusal.NOT_RISING: "the slots to be written do not rise strictly within 1..u, or more are to lie above the cut than there are",
     Refusal.BAD_WAY: "the way is neither 0 (plain) nor 1 (by skips)",
     Refusal.BAD_CUT: "the cut is above u",
     Refusal.OUTSIDE: "the slot to be tested is not in 1..u",
@@ -214,6 +215,23 @@ class Counted(int):
         return str(self.count)
 
 
+class Bound(int):
+    """What `bound` found, in `bytes`: how many bytes the record can have at most.
+
+    It is that number itself too, never 0, so that `bytearray(bound(..))` is the room.
+    """
+
+    @property
+    def bytes(self) -> int:
+        return int(self)
+
+    def __repr__(self) -> str:
+        return f"Bound(bytes={self.bytes})"
+
+    def __str__(self) -> str:
+        return str(self.bytes)
+
+
 class Written(int):
     """What `write` and `close` did, in `length`: how many bytes from the front of the room on are now the record, or the index.
 
@@ -303,13 +321,31 @@ def lend(index: Bytes, name: int) -> Lent:
     return Lent(start, view[start:start + length].toreadonly())
 
 
+def bound(u: int, block: int, cut: int, n: int) -> Bound:
+    """How many bytes a record can need, told before it is written: a number, also as `bytes`.
+
+    u, block, cut: those that `write` is to be given. n: how many of the slots to be written lie above the cut. No record that `write` makes with this
+    u, block and cut, of slots of which n lie above the cut, has more bytes. Some lists reach it, others do not. So a room of that length is never
+    refused with 12. Reserve it, then write once:
+
+        room = bytearray(slots.bound(32, 4, 16, 3))
+        written = slots.write(32, 4, 16, [3, 5, 12, 16, 26, 30, 31], room)
+
+    Refuses, in this order: 4 (u or block), 15 (cut), 13 (n is above u - cut, so that so many slots cannot lie above the cut; its place is 0, and not a
+    position).
+    """
+    numbers = _number("u", u), _number("block", block), _number("cut", cut), _number("n", n)
+    return Bound(_accepted(_call("slots_bound", 3, *numbers))[2])
+
+
 def write(u: int, block: int, cut: int, slots: Iterable[int], room: Room) -> Written:
     """Writes the record of one list at the front of `room`; its `length` is how many bytes that are. Every byte behind them stays.
 
     u: how many slots the rack has. block: the B of the index to come. slots: the list, lowest first, each once; there may be none.
     cut: slots up to it are packed as bits, the others as gaps; 0 is gaps alone, u bits alone. What the list holds does not depend on it. Bits
     beyond the cut, in the last byte of bits, are 0.
-    To write behind other records, give `memoryview(room)[at:]`. `record` does the same in a buffer of its own.
+    room: as many bytes as `bound` tells are enough. To write behind other records, give `memoryview(room)[at:]`. `record` does the same in a buffer of
+    its own.
 
     Refuses, in this order: 4 (u or block), 15 (cut), 13 (slots), 12 (place: the length of the record).
     """
@@ -334,12 +370,12 @@ def close(room: Room, u: int, block: int, total: int, starts: Iterable[int]) -> 
 
 
 def record(u: int, block: int, cut: int, slots: Iterable[int]) -> bytes:
-    """The record of one list, as `write` makes it. Refuses as `write` does, but never with 12."""
+    """The record of one list, as `write` makes it, in a room that is reserved by `bound`. Refuses as `write` does, but never with 12."""
     numbers = _number("u", u), _number("block", block), _number("cut", cut)
     cells = _numbers("slots", slots)
-    room = bytearray(_room_needed(lambda: _written(*numbers, cells, bytearray())))
-    _written(*numbers, cells, room)
-    return bytes(room)
+    room = bytearray(_room_for(*numbers, cells))
+    length = _written(*numbers, cells, room)
+    return bytes(memoryview(room)[:length])
 
 
 def index_of(u: int, block: int, records: Iterable[Bytes]) -> bytes:
@@ -370,6 +406,20 @@ def _written(u: int, block: int, cut: int, slots: ctypes.Array[ctypes.c_uint32],
     answer = _call("slots_write", 3, u, block, cut, slots, len(slots), lent, len(lent))
     del lent  # a refusal that is raised below keeps this frame alive: with the loan in it, the caller could not resize the room
     return Written(_accepted(answer)[2])
+
+
+def _room_for(u: int, block: int, cut: int, slots: ctypes.Array[ctypes.c_uint32]) -> int:
+    """The room that is enough for the record of these slots, by the bound.
+
+    How many lie above the cut is found by halving, as in slots that rise. Where they do not, the number may be any: writing refuses such slots before it
+    looks at the room, and tells what is wrong and where. So it does where the bound is refused, and the room is 0: it judges u, block and cut as the
+    bound does, and where more slots are above the cut than u - cut, they do not rise within 1..u.
+    """
+    above = len(slots) - bisect.bisect_right(slots, cut)
+    try:
+        return bound(u, block, cut, min(above, _MOST_NUMBER))
+    except Refused:
+        return 0
 
 
 def _room_needed(tried: Callable[[], Written]) -> int:
@@ -484,6 +534,7 @@ _FUNCTIONS = {
     "slots_test": (*_INDEX, _NUMBER, _NUMBER, *_OUT),
     "slots_count": (*_INDEX, _NUMBER, *_OUT),
     "slots_lend": (*_INDEX, _NUMBER, *_OUT),
+    "slots_bound": (_NUMBER, _NUMBER, _NUMBER, _NUMBER, *_OUT),
     "slots_write": (_NUMBER, _NUMBER, _NUMBER, *_ROW, *_ROOM, *_OUT),
     "slots_close": (*_ROOM, _NUMBER, _NUMBER, _NUMBER, *_ROW, *_OUT),
 }

@@ -75,6 +75,14 @@ pub struct Written {
     pub length: u32,
 }
 
+/// How many bytes a record needs at most; 0 on a refusal.
+#[derive(Clone, Copy, Debug, PartialEq, Eq)]
+pub struct Bound {
+    pub number: u32,
+    pub place: u32,
+    pub bytes: u32,
+}
+
 impl From<Verdict> for Answer {
     fn from(v: Verdict) -> Answer {
         Answer {
@@ -126,6 +134,16 @@ impl From<Verdict> for Written {
             number: v.number,
             place: v.place,
             length: 0,
+        }
+    }
+}
+
+impl From<Verdict> for Bound {
+    fn from(v: Verdict) -> Bound {
+        Bound {
+            number: v.number,
+            place: v.place,
+            bytes: 0,
         }
     }
 }

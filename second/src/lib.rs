@@ -8,6 +8,7 @@
 #![forbid(unsafe_code)]
 
 mod answer;
+mod bound;
 mod bytes;
 pub mod cases;
 mod close;
@@ -21,7 +22,8 @@ mod record;
 mod search;
 mod write;
 
-pub use answer::{Answer, Counted, Part, Tested, Verdict, Written};
+pub use answer::{Answer, Bound, Counted, Part, Tested, Verdict, Written};
+pub use bound::bound;
 pub use close::close;
 pub use look::look;
 pub use program::{program, read_line};

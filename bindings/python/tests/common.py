@@ -57,6 +57,12 @@ DAMAGED: List[Tuple[int, int, bytes]] = [
 BEYOND = DAMAGED[-1][2]
 
 
+def most_bytes(u: int, block: int, cut: int, n: int) -> int:
+    """What `slots.bound` tells where it accepts: head, bits, blocks, other slots above the cut, and what wide gaps can add."""
+    blocks, left = -(-n // block), u - cut
+    return 12 + -(-cut // 8) + 8 * blocks + (n - blocks) + left // 129 + left // 16_385
+
+
 @dataclass(frozen=True)
 class Rack:
     """Lists made at random: their slots, the cut of each, and their index."""

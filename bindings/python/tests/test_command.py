@@ -232,6 +232,21 @@ class Pack(Case):
                        "list 1: 0 looks, 0 codes (the starting list: 7 candidates)\n"
                        "5\n12\n16\n26\n30\n", "ask", "new.idx", "skips", "0", "1")
 
+    def test_what_is_reserved_and_not_needed_is_not_in_the_file(self):
+        # By hand: 12 + 131,072 bytes of bits; a byte of bits for slot 1, and an entry each for the others, where 8,220 bytes are reserved; a head alone,
+        # where 8,203 are.
+        self.file("lists.txt", b"u 1048576\nB 1\nlist 1-1048576\nlist 1 500000 1000000\nlist\n")
+        self.assertEqual((slots.bound(1_048_576, 1, 1, 2), slots.bound(1_048_576, 1, 0, 0)), (12 + 1 + 16 + 8128 + 63, 12 + 8128 + 63))
+        self.prints(0, f"u 1048576, B 1, 3 lists, {131_084 + 29 + 12 + 12 + 24} bytes\n"
+                       "\n"
+                       "list      cut    count  in bits  in tail  blocks  code bytes   bytes\n"
+                       "   0  1048576  1048576  1048576        0       0           0  131084\n"
+                       "   1        1        3        1        2       2           0      29\n"
+                       "   2        0        0        0        0       0           0      12\n"
+                       "\n"
+                       "directory 12 bytes, trailer 24 bytes\n", "pack", "lists.txt", "new.idx")
+        self.assertEqual((self.folder / "new.idx").stat().st_size, 131_161)
+
     def test_what_stood_there_is_replaced(self):
         self.file("lists.txt", self.LISTS.encode())
         os.chmod(self.folder / "rack.idx", 0o640)

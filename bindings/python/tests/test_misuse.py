@@ -24,6 +24,7 @@ CALLS = [
     (slots.test, {"index": EXAMPLE, "name": 0, "slot": 5}),
     (slots.count, {"index": EXAMPLE, "name": 0}),
     (slots.lend, {"index": EXAMPLE, "name": 0}),
+    (slots.bound, {"u": 32, "block": 4, "cut": 16, "n": 3}),
     (slots.write, {"u": 32, "block": 4, "cut": 16, "slots": LIST_1, "room": bytearray(24)}),
     (slots.close, {"room": bytearray(RECORD_1 + bytes(28)), "u": 32, "block": 4, "total": 24, "starts": [0]}),
     (slots.record, {"u": 32, "block": 4, "cut": 16, "slots": LIST_1}),
@@ -89,12 +90,13 @@ class Numbers(Case):
                 call(2**32 - 1)
                 self.assertEqual(name, "room")  # as large as one likes
             except slots.Refused as refused:
-                expected = {"way": [14], "name": [11], "slot": [16], "u": [4], "block": [4], "cut": [15], "total": [1]}
+                expected = {"way": [14], "name": [11], "slot": [16], "u": [4], "block": [4], "cut": [15], "n": [13], "total": [1]}
                 self.assertIn(refused.number, expected[name])
 
     def test_whole_numbers_of_another_kind(self):
         self.assertEqual(slots.ask(EXAMPLE, Whole(1), [Whole(0), 1], Whole(7)), slots.ask(EXAMPLE, 1, [0, 1]))
         self.assertEqual(slots.record(Whole(32), Whole(4), Whole(16), map(Whole, LIST_1)), RECORD_1)
+        self.assertEqual(slots.bound(Whole(32), Whole(4), Whole(16), Whole(3)).bytes, 24)
 
 
 class Rows(Case):
@@ -130,6 +132,19 @@ class Rows(Case):
         with mock.patch("slots._call", side_effect=meanwhile) as call:
             slots.write(32, 4, 16, given, bytearray(24))
         self.assertEqual((call.call_count, list(given)), (1, [99] + LIST_1[1:] + [32]))
+
+    def test_an_array_is_copied_before_its_room_is_reserved(self):
+        given = array("I", LIST_1)
+        call = slots._call
+
+        def meanwhile(function, fields, *handed):
+            if function == "slots_bound":
+                given[:] = array("I", range(1, 33))  # more slots than there is room for
+            return call(function, fields, *handed)
+
+        with mock.patch("slots._call", side_effect=meanwhile):
+            self.assertEqual(slots.record(32, 4, 16, given), RECORD_1)
+        self.assertEqual(len(given), 32)
 
 
 class Buffers(Case):
@@ -229,6 +244,13 @@ class Library(unittest.TestCase):
         said = self.tried(self.folder)
         self.assertIn("slots_look", said)
         self.assertIn("run ./build-lib", said)
+
+    def test_a_library_that_lacks_a_function(self):
+        """One that is older than slots_bound."""
+        older = mock.Mock(spec=[name for name in slots._FUNCTIONS if name != "slots_bound"])
+        with mock.patch("ctypes.CDLL", return_value=older):
+            with self.assertRaisesRegex(slots.NoLibrary, r"^the library cannot be loaded \(.*slots_bound.*\): run ./build-lib"):
+                slots._library.__wrapped__()
 
     def test_an_older_library(self):
         """One whose answer to a question has five fields, and not the costs of the positions."""

@@ -1,15 +1,17 @@
 """The text of lists, and the choice of the cut: against every cut tried through the library."""
 from __future__ import annotations
 
+import bisect
 import io
 import random
 import unittest
+from unittest import mock
 
 import packing
 import reading
 import slots
 
-from .common import LIST_0, LIST_1
+from .common import LIST_0, LIST_1, most_bytes
 
 
 def pack(text: str) -> bytes:
@@ -26,6 +28,7 @@ class Cuts(unittest.TestCase):
         self.assertEqual(packing.smallest(block, held), (lengths.index(min(lengths)), min(lengths)), (u, block, held))
         for cut, length in packing.sizes(block, held):
             self.assertEqual(length, lengths[cut], (u, block, held, cut))
+            self.assertLessEqual(length, slots.bound(u, block, cut, len(held) - bisect.bisect_right(held, cut)), (u, block, held, cut))
 
     def test_by_hand(self):
         # Slots 1 to 8 of 8 with B 4: as bits 12 + 1 bytes; as gaps 12 + 2 entries of 8 and 6 codes.
@@ -60,6 +63,49 @@ class Cuts(unittest.TestCase):
     def test_a_full_rack(self):
         cut, length = packing.smallest(128, range(1, slots.MOST_SLOTS + 1))
         self.assertEqual((cut, length), (slots.MOST_SLOTS, 12 + slots.MOST_SLOTS // 8))
+
+
+class Rooms(unittest.TestCase):
+    """The room of each record is reserved by the bound, and each record is written once."""
+
+    def calls(self, text):
+        with mock.patch("slots._call", wraps=slots._call) as call:
+            index = pack(text)
+        return index, [each[0] for each in call.call_args_list]
+
+    def held_to_the_bound(self, u, block, lists_given):
+        """The records of an index that is packed from these lists, and for each how many bytes of its room were left."""
+        text = f"u {u}\nB {block}\n" + "".join(f"list {' '.join(map(str, held))}\n" for held in lists_given)
+        index, calls = self.calls(text)
+        self.assertEqual([call[0] for call in calls[:2 * len(lists_given)]], ["slots_bound", "slots_write"] * len(lists_given))
+        left = []
+        for held, each, measured, written in zip(lists_given, reading.read(index).lists, calls[::2], calls[1::2]):
+            cut, length = packing.smallest(block, held)
+            above = sum(slot > cut for slot in held)
+            self.assertEqual((each.cut, each.length), (cut, length))
+            self.assertEqual(measured[2:], (u, block, cut, above))
+            self.assertEqual(written[-1], most_bytes(u, block, cut, above))
+            left.append(written[-1] - length)
+        self.assertGreaterEqual(min(left), 0)
+        return left
+
+    def test_by_hand(self):
+        # With 129 slots or more above the cut one byte is reserved for a code of two bytes. The first list, cut at 0, has such a code; those behind it, cut
+        # at 0, 0 and 9, have none. The full list is all bits, up to 230. The last has no slots, and is cut at 0.
+        given = [[100, 229], [100, 228], [229], [9], list(range(1, 231)), []]
+        self.assertEqual(self.held_to_the_bound(230, 128, given), [0, 1, 1, 1, 0, 1])
+
+    def test_lists_made_at_random(self):
+        chance = random.Random(9)
+        for _ in range(60):
+            u = chance.choice([30, 900, 40_000])
+            shares = [chance.choice([0, 0.0002, 0.01, 0.3, 1]) for _ in range(3)]
+            self.held_to_the_bound(u, chance.choice([1, 3, 128]), [[slot for slot in range(1, u + 1) if chance.random() < share] for share in shares])
+
+    def test_a_full_rack_cut_nowhere(self):
+        # `pack` would not cut it so; but a record of which all slots lie above the cut is one of the longest.
+        held = packing._slots(["1-1048576"], slots.MOST_SLOTS)
+        self.assertEqual(len(slots.record(slots.MOST_SLOTS, 1, 0, held)), 12 + 8 * slots.MOST_SLOTS)
 
 
 class Text(unittest.TestCase):

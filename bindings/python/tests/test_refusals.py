@@ -71,6 +71,14 @@ class Numbers(Case):
         self.assertEqual(slots.ask(index, Way.PLAIN, [1]).slots, [slot for slot in LIST_1 if slot != 16])
         self.assertEqual(slots.lend(index, 1).record, slots.record(32, 4, 15, [slot for slot in LIST_1 if slot != 16]))
 
+    def test_4_and_13_and_15_of_a_bound(self):
+        for u, block in (0, 4), (1_048_577, 4), (2**32 - 1, 4), (32, 0), (32, 129), (32, 2**32 - 1):
+            self.refused(4, 0, slots.bound, u, block, 0, 0)
+        for cut in 33, 2**32 - 1:
+            self.refused(15, 0, slots.bound, 32, 4, cut, 0)
+        for cut, n in (0, 33), (16, 17), (32, 1), (32, 2**32 - 1):
+            self.refused(13, 0, slots.bound, 32, 4, cut, n)
+
     def test_4_and_12_and_13_and_15_of_writing(self):
         for function, room in (slots.write, [bytearray(55)]), (slots.record, []):
             self.refused(4, 0, function, 1_048_577, 4, 0, LIST_0, *room)
@@ -112,6 +120,7 @@ class Numbers(Case):
         self.refused(1, 0, slots.test, b"", 0, 0)
         self.refused(1, 0, slots.count, bytearray(), 0)
         self.refused(1, 0, slots.lend, memoryview(b""), 0)
+        self.refused(4, 0, slots.bound, 0, 0, 0, 0)
         self.refused(4, 0, slots.write, 0, 0, 0, [], bytearray())
         self.refused(4, 0, slots.close, bytearray(), 0, 0, 0, [])
         self.refused(4, 0, slots.record, 0, 0, 0, [])
@@ -168,7 +177,7 @@ class Words(Case):
             (Refused(10, 0), "10: the question has no name, or more than 16"),
             (Refused(11, 1), "11: there is no list of that name (name at position 1)"),
             (Refused(12, 7), "12: the room is too small (room needed: 7)"),
-            (Refused(13, 0), "13: the slots to be written do not rise strictly within 1..u (slot at position 0)"),
+            (Refused(13, 0), "13: the slots to be written do not rise strictly within 1..u, or more are to lie above the cut than there are (slot at position 0)"),
             (Refused(17, 1), "17: a bit beyond the cut is set (list 1)"),
         ]:
             self.assertEqual(str(refused), said)
@@ -235,7 +244,7 @@ class Header(unittest.TestCase):
                  "uint32_t *": ctypes.POINTER(ctypes.c_uint32), "uint64_t *": ctypes.POINTER(ctypes.c_uint64),
                  "uint32_t ": ctypes.c_uint32, "size_t ": ctypes.c_size_t}
         declared = re.findall(r"^uint32_t (slots_\w+)\((.*?)\);", self.text, re.M | re.S)
-        self.assertEqual(len(declared), 7)
+        self.assertEqual(len(declared), 8)
         for name, parameters in declared:
             expected = [types[re.sub(r"\w+$", "", parameter)] for parameter in re.split(r",\s*", parameters)]
             function = getattr(slots._library(), name)
@@ -248,6 +257,7 @@ class Header(unittest.TestCase):
             slots.test(EXAMPLE, 0, 1)
             slots.count(EXAMPLE, 0)
             slots.lend(EXAMPLE, 0)
+            slots.bound(32, 4, 16, 3)
             slots.write(32, 4, 16, LIST_1, bytearray(24))
             slots.close(bytearray(RECORD_1 + bytes(28)), 32, 4, 24, [0])
         fields = {each[0][0]: each[0][1] for each in call.call_args_list}
@@ -293,6 +303,12 @@ class Order(Case):
         self.refused(14, 0, slots.ask, EXAMPLE, 2, [9] * 17, 0)
         self.refused(10, 0, slots.ask, EXAMPLE, 1, [9] * 17, 0)
         self.refused(11, 0, slots.ask, EXAMPLE, 1, [9], 0)
+
+    def test_bounds(self):
+        self.refused(4, 0, slots.bound, 0, 4, 33, 34)
+        self.refused(4, 0, slots.bound, 32, 0, 33, 34)
+        self.refused(15, 0, slots.bound, 32, 4, 33, 34)
+        self.refused(13, 0, slots.bound, 32, 4, 32, 34)
 
     def test_writing(self):
         self.refused(4, 0, slots.write, 0, 4, 33, [3, 3], bytearray())

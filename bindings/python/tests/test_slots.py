@@ -3,6 +3,7 @@ from __future__ import annotations
 
 import copy
 import ctypes
+import itertools
 import mmap
 import pickle
 import random
@@ -15,7 +16,7 @@ from unittest import mock
 import slots
 from slots import Way
 
-from .common import BOTH, EXAMPLE, LIST_0, LIST_1, RACK, RECORD_0, RECORD_1, random_rack
+from .common import BOTH, EXAMPLE, LIST_0, LIST_1, RACK, RECORD_0, RECORD_1, most_bytes, random_rack
 
 # What the example answers by skips for lists 0 and 1, in this order. List 1 is the smaller, so all is sought in list 0.
 SOUGHT = slots.Answer(BOTH, 9, 14, (9, 0), (14, 0))
@@ -154,6 +155,132 @@ class Costs(unittest.TestCase):
             answer.codes_at[0] = 0
 
 
+class Bounds(unittest.TestCase):
+    """How many bytes a record can need, and the room that is reserved by it."""
+
+    def test_by_hand(self):
+        for given, expected in [
+            ((32, 4, 0, 15), 12 + 4 * 8 + 11),       # both lists of the example are as long as they can be
+            ((32, 4, 16, 3), 12 + 2 + 8 + 2),
+            ((32, 4, 16, 16), 12 + 2 + 4 * 8 + 12),  # all slots above the cut, and none
+            ((32, 4, 16, 0), 12 + 2),
+            ((32, 4, 32, 0), 12 + 4),                # bits alone
+            ((32, 4, 9, 0), 12 + 2),
+            ((32, 4, 0, 4), 12 + 8 + 3),             # a block begun is a block
+            ((32, 4, 0, 5), 12 + 2 * 8 + 3),
+            ((1, 1, 0, 0), 12),
+            ((1, 1, 0, 1), 12 + 8),
+            ((1, 1, 1, 0), 12 + 1),
+            ((130, 128, 0, 2), 12 + 8 + 1 + 1),
+            ((128, 1, 0, 0), 12),                    # without a slot, the last two terms stay
+            ((129, 1, 0, 0), 12 + 1),
+            ((140, 1, 11, 0), 12 + 2 + 1),           # they go by u - cut
+            ((140, 1, 12, 0), 12 + 2),
+            ((16_384, 1, 0, 0), 12 + 127),
+            ((16_385, 1, 0, 0), 12 + 127 + 1),
+            ((1_048_576, 1, 0, 1_048_576), 12 + 8 * 1_048_576 + 8128 + 63),
+            ((1_048_576, 128, 0, 1_048_576), 12 + 8192 * (8 + 127) + 8128 + 63),
+            ((1_048_576, 128, 1_048_576, 0), 12 + 131_072),
+        ]:
+            self.assertEqual(slots.bound(*given).bytes, expected, given)
+
+    def test_wild_numbers(self):
+        wild = 0, 1, 3, 8, 127, 128, 129, 16_385, 1_048_575, 1_048_576, 1_048_577, 2**31, 2**32 - 1
+        for u, block, cut, n in itertools.product(wild, repeat=4):
+            number = 4 if not (1 <= u <= 1_048_576 and 1 <= block <= 128) else 15 if cut > u else 13 if n > u - cut else 0
+            expected = (number, 0, 0 if number else most_bytes(u, block, cut, n))
+            self.assertEqual(tuple(slots._call("slots_bound", 3, u, block, cut, n)), expected, (u, block, cut, n))
+
+    def left(self, u, block, cut, held):
+        """Writes the slots into exactly the room that is reserved for them, and gives how many bytes of it are left."""
+        bound = slots.bound(u, block, cut, sum(slot > cut for slot in held))
+        room = bytearray(b"\xA5" * bound)
+        written = slots.write(u, block, cut, held, room)
+        self.assertEqual(room[written:], b"\xA5" * (bound - written))
+        self.assertEqual(slots.record(u, block, cut, held), room[:written])
+        return bound - written
+
+    def test_some_records_need_all_of_it(self):
+        self.assertEqual(self.left(32, 4, 0, LIST_0), 0)
+        self.assertEqual(self.left(32, 4, 16, LIST_1), 0)
+        # A slot that lies 129 above the one before has a code of two bytes; then as many such codes as a block can have: 12 + 8 + 2 * 127 bytes.
+        self.assertEqual((slots.bound(130, 128, 0, 2), self.left(130, 128, 0, [1, 130])), (22, 0))
+        self.assertEqual((slots.bound(16_384, 128, 0, 128), self.left(16_384, 128, 0, range(1, 16_385, 129))), (274, 0))
+
+    def test_others_leave_some_of_it(self):
+        self.assertEqual(self.left(130, 128, 0, [1, 129]), 1)          # a code of one byte
+        self.assertEqual(self.left(16_386, 2, 0, [1, 16_386]), 126)    # one of three bytes, where 129 are reserved
+        self.assertEqual(self.left(1_048_576, 1, 0, []), 8128 + 63)    # the head alone
+
+    def test_racks_made_at_random(self):
+        chance = random.Random(5)
+        for _ in range(200):
+            rack = random_rack(chance, chance.choice([40, 900, 40_000]), 2)
+            for cut, held in zip(rack.cuts, rack.lists):
+                self.left(rack.u, rack.block, cut, held)
+
+    def test_the_largest_rack(self):
+        u = slots.MOST_SLOTS
+        for block, cut in (1, 0), (128, 0), (128, 500_000), (128, u):
+            self.left(u, block, cut, array("I", range(1, u + 1)))
+
+    def test_a_record_is_measured_and_then_written_once(self):
+        for cut, held, n, room in (0, LIST_0, 15, 55), (16, LIST_1, 3, 24), (0, [], 0, 12):
+            with mock.patch("slots._call", wraps=slots._call) as call:
+                slots.record(32, 4, cut, held)
+            measured, written = (each[0] for each in call.call_args_list)
+            self.assertEqual(measured, ("slots_bound", 3, 32, 4, cut, n))
+            self.assertEqual((written[0], written[-1]), ("slots_write", room))
+
+
+class WrongSlots(unittest.TestCase):
+    """A record of wrong slots is refused as writing refuses them, whatever the bound says."""
+
+    def same(self, u, block, cut, held):
+        """What writing says with no room, and `record` too: number and place of a refusal, or 0 and the length."""
+        with self.assertRaises(slots.Refused) as written:
+            slots.write(u, block, cut, held, bytearray())
+        said = written.exception.number, written.exception.place
+        if said[0] == 12:
+            self.assertEqual(len(slots.record(u, block, cut, held)), said[1], (u, block, cut, held))
+            return 0, said[1]
+        with self.assertRaises(slots.Refused) as recorded:
+            slots.record(u, block, cut, held)
+        self.assertEqual((recorded.exception.number, recorded.exception.place), said, (u, block, cut, held))
+        self.assertIsNone(recorded.exception.__context__)  # that of the bound is no part of it
+        return said
+
+    def test_by_hand(self):
+        for given, expected in [
+            ((32, 4, 0, [4, 5, 3]), (13, 2)),
+            ((32, 4, 32, [4, 5, 5]), (13, 2)),
+            ((32, 4, 16, [0, 17]), (13, 0)),
+            ((32, 4, 16, [17, 33]), (13, 1)),
+            ((32, 4, 16, [2**32 - 1]), (13, 0)),
+            ((32, 4, 32, [1, 2, 33]), (13, 2)),      # from here on more slots above the cut than there can be; the first bad one is told
+            ((32, 4, 31, [5, 32, 32]), (13, 2)),
+            ((32, 4, 31, [5, 5, 33, 34]), (13, 1)),
+            ((1, 1, 0, [1] * 100), (13, 1)),
+            ((32, 4, 33, [5, 5]), (15, 0)),          # what comes before the slots
+            ((32, 4, 2**32 - 1, []), (15, 0)),
+            ((0, 4, 0, []), (4, 0)),
+            ((0, 0, 9, [5, 5]), (4, 0)),
+            ((2**32 - 1, 4, 0, [1]), (4, 0)),
+            ((32, 129, 0, [1]), (4, 0)),
+            ((32, 4, 0, LIST_0), (0, 55)),
+        ]:
+            self.assertEqual(self.same(*given), expected, given)
+
+    def test_anything(self):
+        chance = random.Random(8)
+        met = set()
+        for _ in range(5000):
+            u, block = chance.choice([0, 1, 2, 5, 9, 9, 9, 1_048_577]), chance.choice([0, 1, 2, 4, 128, 129])
+            held = [chance.randint(0, 11) for _ in range(chance.randint(0, 4))]
+            met.add(self.same(u, block, chance.randint(0, 10), sorted(held) if chance.random() < 0.5 else held)[0])
+        self.assertEqual(met, {0, 4, 13, 15})
+
+
 class Answers(unittest.TestCase):
     """What the answers are as values: a program that forgets the field must still do what it says."""
 
@@ -171,6 +298,11 @@ class Answers(unittest.TestCase):
         self.assertEqual((repr(counted), str(counted), type(counted.count)), ("Counted(count=7)", "7", int))
         self.assertFalse(slots.count(slots.index_of(9, 9, [slots.record(9, 9, 0, [])]), 0))
 
+    def test_bound(self):
+        bound = slots.bound(32, 4, 16, 3)
+        self.assertEqual((bound == 24, bound < 25, 55 + bound, len(bytearray(bound))), (True, True, 79, 24))
+        self.assertEqual((repr(bound), str(bound), type(bound.bytes)), ("Bound(bytes=24)", "24", int))
+
     def test_written(self):
         written = slots.write(32, 4, 16, LIST_1, bytearray(24))
         self.assertEqual((written == 24, 55 + written, repr(written), str(written)), (True, 79, "Written(length=24)", "24"))
@@ -181,7 +313,7 @@ class Answers(unittest.TestCase):
         self.assertFalse(slots.ask(nothing, 0, [0, 1]))
 
     def test_copies_and_pickles(self):
-        for value in SOUGHT, slots.Tested(True), slots.Tested(False), slots.Counted(7), slots.Written(24):
+        for value in SOUGHT, slots.Tested(True), slots.Tested(False), slots.Counted(7), slots.Bound(24), slots.Written(24):
             for again in copy.copy(value), copy.deepcopy(value), pickle.loads(pickle.dumps(value)):
                 self.assertEqual((type(again), again, repr(again)), (type(value), value, repr(value)))
 

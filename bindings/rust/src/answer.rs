@@ -137,6 +137,14 @@ pub struct Lent<'i> {
     pub record: &'i [u8],
 }
 
+/// What [`bound`](crate::bound) found.
+#[derive(Debug, Clone, Copy, PartialEq, Eq)]
+#[non_exhaustive]
+pub struct Bound {
+    /// The most bytes that the record can have. A usize, which is what a buffer is made with.
+    pub bytes: usize,
+}
+
 /// What [`write`](crate::write) and [`close`](crate::close) did.
 #[derive(Debug, Clone, Copy, PartialEq, Eq)]
 #[non_exhaustive]

@@ -11,11 +11,13 @@
 //! | [`test()`] | whether a list holds a slot |
 //! | [`count`] | how many slots a list holds |
 //! | [`lend`] | the bytes of a list's record |
+//! | [`bound`] | how many bytes a record can need, before it is written |
 //! | [`write()`], [`record`] | the record of one list, out of its slots |
 //! | [`close`], [`index_of`] | an index, out of the records of its lists |
 //!
 //! The first of each pair works in a buffer that the caller lends. The second has a buffer of its own,
-//! and learns by one call more how long that has to be.
+//! and learns by one call more how long that has to be: [`record`] from [`bound`], the others from a
+//! call with no room.
 //!
 //! # An answer is right, or it is a refusal
 //!
@@ -49,8 +51,8 @@ mod raw;
 mod reading;
 mod refusal;
 
-pub use answer::{Answer, Counted, Lent, OwnedAnswer, Tested, Way, Written};
-pub use making::{close, index_of, record, write};
+pub use answer::{Answer, Bound, Counted, Lent, OwnedAnswer, Tested, Way, Written};
+pub use making::{bound, close, index_of, record, write};
 pub use reading::{ask, ask_owned, count, lend, look, test};
 pub use refusal::{Refusal, Refused};
 
@@ -64,7 +66,7 @@ pub const MOST_BLOCK: u32 = 128;
 pub const MOST_LISTS: usize = 4_096;
 /// The most names that a question may have.
 pub const MOST_NAMES: usize = 16;
-/// No record that [`write()`] makes has more bytes.
+/// No record that [`write()`] makes has more bytes. For a list at hand [`bound`] tells a closer number.
 pub const MOST_RECORD: usize = 11_665_420;
 
 // The library's lengths have 64 bits. So a `usize` is one as it is, and a number of the library, a u32,

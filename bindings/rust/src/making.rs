@@ -1,12 +1,44 @@
-//! The calls that make an index: write and close in a buffer of the caller's, and record and index_of,
-//! which own theirs.
+//! The calls that make an index: bound, which tells how much room a record can need; write and close in
+//! a buffer of the caller's; and record and index_of, which own theirs.
 //!
-//! The latter learn the length of their buffer from the library: a call with no room is refused with
-//! the room needed, unless something else is wrong. So no length of the format is worked out here.
+//! The latter learn the length of their buffer from the library. For a record that is the bound. An
+//! index is closed with no room first, which is refused with the room needed, unless something else is
+//! wrong. So no length of the format is worked out here.
 
-use crate::answer::Written;
+use crate::answer::{Bound, Written};
 use crate::raw;
 use crate::refusal::{narrow, verdict, Refusal, Refused};
+
+/// How many bytes a record can need, told before it is written.
+///
+/// - `u`, `block` and `cut` are those that [`write()`] is to be given.
+/// - `n` is how many of the slots to be written lie above the cut.
+///
+/// No record that `write` makes with this `u`, `block` and `cut`, of slots of which `n` lie above the
+/// cut, has more bytes. Some lists reach it, others do not. So a room of that length is never refused
+/// with [`NoRoom`](Refusal::NoRoom): reserve it, then write once. [`record`] does that by itself.
+///
+/// ```
+/// use slots::{bound, write};
+///
+/// // Of these slots three lie above the cut, which is 16.
+/// let mut room = vec![0; bound(32, 4, 16, 3)?.bytes];
+/// let written = write(32, 4, 16, &[3, 5, 12, 16, 26, 30, 31], &mut room)?;
+/// room.truncate(written.length as usize);
+/// # assert_eq!(room.len(), 24);
+/// # Ok::<(), slots::Refused>(())
+/// ```
+///
+/// # Errors
+///
+/// In this order: [`BadRange`](Refusal::BadRange), of `u` or `block`; [`BadCut`](Refusal::BadCut);
+/// [`NotRising`](Refusal::NotRising), with place 0, where `n` is above u - cut, so that so many slots
+/// cannot lie above the cut.
+pub fn bound(u: u32, block: u32, cut: u32, n: u32) -> Result<Bound, Refused> {
+    let [number, place, bytes] = raw::bound(u, block, cut, n);
+    verdict(number, place)?;
+    Ok(Bound { bytes: narrow(bytes) as usize })
+}
 
 /// Makes the record of one list, at the front of `room`.
 ///
@@ -17,8 +49,9 @@ use crate::refusal::{narrow, verdict, Refusal, Refused};
 ///   one as gaps. The choice changes the bytes and what a search costs, never what the list holds.
 ///   Bits beyond the cut, in the last byte of bits, are 0.
 /// - `slots` are the list, lowest first, each once, all from 1 to u. There may be none.
-/// - `room` is where the record is to stand. What it holds does not matter. No record has more than
-///   11,665,420 bytes. An empty room is a way to learn how many it has.
+/// - `room` is where the record is to stand. What it holds does not matter. As many bytes as [`bound`]
+///   tells are enough, and no record has more than 11,665,420. An empty room is a way to learn how many
+///   it has.
 ///
 /// Where the call is accepted, the bytes of `room` behind the record are as they were.
 ///
@@ -69,16 +102,17 @@ pub fn close(room: &mut [u8], u: u32, block: u32, total: u32, starts: &[u32]) ->
     written(fields, room)
 }
 
-/// The bytes of one record, as [`write()`] makes them.
+/// The bytes of one record, as [`write()`] makes them. The room for them is reserved by [`bound`], and
+/// what the record leaves of it is given back.
 ///
 /// # Errors
 ///
 /// As [`write()`], but never [`NoRoom`](Refusal::NoRoom).
 pub fn record(u: u32, block: u32, cut: u32, slots: &[u32]) -> Result<Vec<u8>, Refused> {
-    let needed = room_needed(write(u, block, cut, slots, &mut []))?;
-    let mut room = vec![0; needed];
+    let mut room = vec![0; room_for(u, block, cut, slots)];
     let written = write(u, block, cut, slots, &mut room)?;
     room.truncate(written.length as usize);
+    room.shrink_to_fit();
     Ok(room)
 }
 
@@ -130,6 +164,18 @@ fn laid_out(records: &[&[u8]]) -> (Vec<u32>, u32) {
         end = end.saturating_add(u32::try_from(record.len()).unwrap_or(u32::MAX));
     }
     (starts, end)
+}
+
+/// The room that is enough for the record of these slots, by the bound.
+///
+/// It is 0 where the bound is refused. Then writing is refused too, and not for its room: it judges u,
+/// block and cut as the bound does; and where more slots lie above the cut than u - cut, they do not
+/// rise within 1..u. So what is wrong, and where, is for writing to tell. The same goes for slots that
+/// do not rise while the bound is accepted: they are refused before the room is looked at.
+fn room_for(u: u32, block: u32, cut: u32, slots: &[u32]) -> usize {
+    let above = slots.iter().filter(|&&slot| slot > cut).count();
+    let n = u32::try_from(above).unwrap_or(u32::MAX);
+    bound(u, block, cut, n).map_or(0, |bound| bound.bytes)
 }
 
 /// The room that a call needs, by what it answered when it had none.

@@ -1,4 +1,4 @@
-//! The seven functions of the library as C has them, and a safe function over slices for each.
+//! The eight functions of the library as C has them, and a safe function over slices for each.
 //!
 //! All unsafe code of the package is in this file. The declarations are those of include/slots.h;
 //! a declaration that is wrong breaks every promise, so tests/header.rs compares the two texts.
@@ -30,6 +30,7 @@ extern "C" {
     fn slots_test(index: *const u8, index_len: usize, name: u32, slot: u32, out: *mut u64, out_len: usize) -> u32;
     fn slots_count(index: *const u8, index_len: usize, name: u32, out: *mut u64, out_len: usize) -> u32;
     fn slots_lend(index: *const u8, index_len: usize, name: u32, out: *mut u64, out_len: usize) -> u32;
+    fn slots_bound(u: u32, block: u32, cut: u32, n: u32, out: *mut u64, out_len: usize) -> u32;
     fn slots_write(
         u: u32,
         block: u32,
@@ -111,6 +112,14 @@ pub(crate) fn lend(index: &[u8], name: u32) -> [u64; 2] {
     // SAFETY: `index` is one slice, only read; `out` is written to, and is ours alone.
     let length = unsafe { slots_lend(index.as_ptr(), index.len(), name, out.as_mut_ptr(), out.len()) };
     agreed(out, 1, length)
+}
+
+/// Number, place and bytes.
+pub(crate) fn bound(u: u32, block: u32, cut: u32, n: u32) -> [u64; 3] {
+    let mut out = [UNWRITTEN; 3];
+    // SAFETY: `out` is the only slice; it is written to, and is ours alone.
+    let number = unsafe { slots_bound(u, block, cut, n, out.as_mut_ptr(), out.len()) };
+    agreed(out, 0, number)
 }
 
 /// Number, place and length.

@@ -39,7 +39,8 @@ pub enum Refusal {
     /// record or an index.
     NoRoom,
     /// 13: a slot to be written is not from 1 to u, or not above the one before it. The place is the
-    /// position of the first such slot.
+    /// position of the first such slot. [`bound`](crate::bound) gives it where so many slots cannot lie
+    /// above the cut; the place is then 0, and no position.
     NotRising,
     /// 14: the way is neither plain nor by skips. A [`Way`](crate::Way) is always one of them, so this
     /// package never gives it.
@@ -98,7 +99,7 @@ impl Refusal {
             Refusal::BadNames => "the question has no name, or more than 16",
             Refusal::NoList => "there is no list of that name",
             Refusal::NoRoom => "the room is too small",
-            Refusal::NotRising => "the slots to be written do not rise strictly within 1..u",
+            Refusal::NotRising => "the slots to be written do not rise strictly within 1..u, or more are to lie above the cut than there are",
             Refusal::BadWay => "the way is neither 0 (plain) nor 1 (by skips)",
             Refusal::BadCut => "the cut is above u",
             Refusal::Outside => "the slot to be tested is not in 1..u",

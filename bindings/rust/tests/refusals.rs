@@ -6,7 +6,7 @@
 mod common;
 
 use common::{example, refused, spoilt, BLOCK, LIST_1, U};
-use slots::{ask, ask_owned, close, look, record, test, write, Refusal, Refused, Way};
+use slots::{ask, ask_owned, bound, close, look, record, test, write, Refusal, Refused, Way};
 use std::error::Error;
 use std::fmt::Debug;
 
@@ -79,12 +79,26 @@ fn of_a_question() {
 }
 
 #[test]
+fn of_a_record_to_be_measured() {
+    let range = "u is not in 1..1,048,576, B not in 1..128, or the number of lists not in 1..4,096";
+    expect(bound(0, BLOCK, 0, 0), 4, 0, range);
+    expect(bound(U, BLOCK, 33, 0), 15, 0, "the cut is above u");
+    // There are no 17 slots in 17..32.
+    let refused = bound(U, BLOCK, 16, 17).unwrap_err();
+    assert_eq!((refused.number(), refused.place), (13, 0));
+    assert_eq!(
+        refused.refusal.reason(),
+        "the slots to be written do not rise strictly within 1..u, or more are to lie above the cut than there are"
+    );
+}
+
+#[test]
 fn of_a_record_to_be_written() {
     let range = "u is not in 1..1,048,576, B not in 1..128, or the number of lists not in 1..4,096";
     expect(record(U, 0, 0, &[]), 4, 0, range);
     let written = write(U, BLOCK, 16, &LIST_1, &mut [0; 23]);
     expect(written, 12, 24, "the room is too small (room needed: 24)");
-    let rising = "the slots to be written do not rise strictly within 1..u (slot at position 2)";
+    let rising = "the slots to be written do not rise strictly within 1..u, or more are to lie above the cut than there are (slot at position 2)";
     expect(record(U, BLOCK, 0, &[4, 5, 3]), 13, 2, rising);
     expect(record(U, BLOCK, 33, &[]), 15, 0, "the cut is above u");
 }

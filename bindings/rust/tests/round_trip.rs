@@ -5,34 +5,9 @@
 
 mod common;
 
-use common::refused;
+use common::{refused, Random};
 use slots::{ask, ask_owned, count, index_of, lend, look, record, test, Refusal, Way};
 use std::collections::BTreeSet;
-
-/// The xorshift generator of 64 bits.
-struct Random(u64);
-
-impl Random {
-    /// A number from `low` to `high`, both included.
-    fn between(&mut self, low: u32, high: u32) -> u32 {
-        self.0 ^= self.0 << 13;
-        self.0 ^= self.0 >> 7;
-        self.0 ^= self.0 << 17;
-        let span = u64::from(high - low) + 1;
-        low + u32::try_from((self.0 >> 16) % span).expect("less than the span")
-    }
-
-    fn one_of<T: Copy>(&mut self, choices: &[T]) -> T {
-        let last = u32::try_from(choices.len() - 1).expect("few choices");
-        choices[self.between(0, last) as usize]
-    }
-
-    /// A list that is empty, full, crowded or thin.
-    fn list(&mut self, u: u32) -> BTreeSet<u32> {
-        let one_in = self.one_of(&[1, 2, 3, 10, 200, u32::MAX]);
-        (1..=u).filter(|_| self.between(1, one_in) == 1).collect()
-    }
-}
 
 /// An index, and what was put into it.
 struct Made {

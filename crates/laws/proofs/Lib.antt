@@ -14,6 +14,7 @@ pub mod Seeking
 pub mod Tails
 pub mod Entries
 pub mod Cutting
+pub mod Lengths
 pub mod Records
 pub mod Links
 pub mod Frames

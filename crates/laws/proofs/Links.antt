@@ -9,7 +9,7 @@ use lib.Dec.{ltb, eqb}
 use lib.ListN.{length, drop}
 use borrow.Author.Tests.{lt-ltb, le-ltb, eq-eqb, ne-eqb}
 use Rattle.paper.specs.Lists.{pick, same, leading}
-use Rattle.paper.specs.Refusal.{verdict, accepted, within, tag, goodSlots, tooShort, startsFault, fault1, fault2, fault3, fault4, fault4k, fault5, fault10, fault11, fault12, fault13, fault14, fault15, fault16}
+use Rattle.paper.specs.Refusal.{verdict, accepted, within, tag, goodSlots, tooShort, startsFault, fault1, fault2, fault3, fault4, fault4k, fault5, fault10, fault11, fault12, fault13, fault13n, fault14, fault15, fault16}
 use Rattle.paper.specs.declared.Verdict.{Verdict}
 
 -- x in lo..hi
@@ -353,6 +353,17 @@ module _ (rest : Verdict) where
     unfolding fault13
     thirteen l r e = e ∙ rw (← isG) (simp (le-ltb _ _ l))
 
+  module _ (left n : ℕ) where
+    -- 13: more slots than the cut leaves
+    pub thirteen-many : left < n → verdict 13 0 ≡ fault13n left n rest
+    unfolding fault13n
+    thirteen-many l = simp (lt-ltb _ _ l)
+
+    -- not more
+    pub thirteen-few : n ≤ left → (r : Verdict) → r ≡ rest → r ≡ fault13n left n rest
+    unfolding fault13n
+    thirteen-few l r e = e ∙ simp (le-ltb _ _ l)
+
   module _ (room need : ℕ) where
     -- 12: too little room
     pub twelve-small : room < need → verdict 12 need ≡ fault12 room need rest
@@ -384,3 +395,6 @@ pub ruleset name-links = (fourteen-other, fourteen, ten-none, ten-many, ten, ele
 
 -- of a record to be written, up to its room
 pub ruleset write-links = (four-bad, four, fifteen-above, fifteen, thirteen-bad, thirteen)
+
+-- of a record whose bound is told
+pub ruleset bound-links = (four-bad, four, fifteen-above, fifteen, thirteen-many, thirteen-few)

@@ -17,6 +17,7 @@ use Rattle.laws.proofs.Rounding.{bytes-hold}
 use Rattle.laws.proofs.Octets.{bits-length}
 use Rattle.laws.proofs.Entries.{entries-length}
 use Rattle.laws.proofs.Cutting.{blocks-length}
+use Rattle.laws.proofs.Lengths.{encode-length}
 use Rattle.meaning.proofs.Rising.{Ascends, rise-lower, rise-higher}
 use Rattle.meaning.proofs.Parting.{upTo, above, cut-join, cut-low, cut-high}
 use Rattle.pack.specs.Measures.{bitsFor, blocksFor, tailCodes, Judged, LaidOut}
@@ -60,17 +61,6 @@ module _ (B cut : ℕ) (slots : List ℕ) where
 
   entries-long : length (skipEntries 0 (blocksFor B high)) ≡ 8 * blockCount B (length high)
   entries-long = entries-length 0 (blocksFor B high) ∙ ap (λ (m : ℕ). 8 * m) (blocks-length B (blockCount B (length high)) high)
-
-  -- so long is it
-  encode-length : length (encode B cut slots) ≡ 12 + bitLength cut + 8 * blockCount B (length high) + length (tailCodes B high)
-  encode-length =
-      let h = headBytes B cut high in
-      let b = bitsFor low (bitLength cut) in
-      let e = skipEntries 0 (blocksFor B high) in
-      let l₁ = length-append (h ++ b ++ e) (tailCodes B high) in
-      let l₂ = length-append (h ++ b) e in
-      let l₃ = length-append h b in
-      ap length encode-is ∙ omega (arith, head-long B cut high, bits-long, entries-long)
 
 -- Slots of which nothing but the room is still to be judged, and how many lie up to the cut
 module _ {B cut : ℕ} {slots : List ℕ} (p : Judged B cut slots) where

@@ -8,6 +8,7 @@ use Rattle.paper.specs.Look.{MeetsLook}
 use Rattle.paper.specs.Ask.{MeetsAsk}
 use Rattle.paper.specs.OneList.{MeetsTest, MeetsCount, MeetsLend, MeetsPart}
 use Rattle.paper.specs.Write.{MeetsWrite}
+use Rattle.paper.specs.Reserve.{MeetsBound}
 use Rattle.paper.specs.Close.{MeetsClose}
 use Rattle.paper.specs.declared.Answer.{Answer}
 use Rattle.paper.proofs.Hex.{list0, list1, index, slots0}
@@ -26,6 +27,7 @@ pub record Met : Type 0 where
   pub lend : MeetsLend index 1 list1
   pub part : MeetsPart index 1 (record { number = 0; place = 0; start = 55; length = 24 })
   pub write : MeetsWrite 32 4 0 slots0 (room 57) (record { number = 0; place = 0; length = 55 }) (list0 ++ room 2)
+  pub bound : MeetsBound 32 4 16 3 (record { number = 0; place = 0; bytes = 24 })
   pub close : MeetsClose (list0 ++ list1 ++ room 32) 32 4 79 (0 ∷ 55 ∷ []) (record { number = 0; place = 0; length = 111 }) index
 
 pub met : Met
@@ -39,5 +41,6 @@ met =
       lend = refl;
       part = refl;
       write = record { answers = refl; leaves = refl };
+      bound = refl;
       close = record { answers = refl; leaves = refl };
     }

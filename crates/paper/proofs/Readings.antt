@@ -19,6 +19,7 @@ use Rattle.paper.proofs.Rows.Row.{
   counting,
   lending,
   writing,
+  bounding,
   closing,
   lining,
   running,
@@ -352,13 +353,43 @@ costing-rows =
     (709, asking (with 54 0x81) 1 (0 ∷ 1 ∷ []) (room 7) (8 ∷ 0 ∷ 0 ∷ 0 ∷ 0 ∷ []) [] [] (room 7)) ∷
     []
 
+-- [Order 6] How large a record can be: the order's sum, with 129 and 16,385 on both sides, no slot above the cut, none below it, and as large as can be; then 13, 15
+-- before it, 4 before both, and numbers as wild as they come
+unfoldable pub bounding-rows : List (ℕ × Row)
+bounding-rows =
+    (801, bounding 130 128 0 2 (0 ∷ 0 ∷ 22 ∷ [])) ∷
+    (802, bounding 32 4 0 15 (0 ∷ 0 ∷ 55 ∷ [])) ∷
+    (803, bounding 32 4 16 3 (0 ∷ 0 ∷ 24 ∷ [])) ∷
+    (804, bounding 128 128 0 2 (0 ∷ 0 ∷ 21 ∷ [])) ∷
+    (805, bounding 129 128 0 2 (0 ∷ 0 ∷ 22 ∷ [])) ∷
+    (806, bounding 16384 128 0 2 (0 ∷ 0 ∷ 148 ∷ [])) ∷
+    (807, bounding 16385 128 0 2 (0 ∷ 0 ∷ 149 ∷ [])) ∷
+    (808, bounding 16385 128 0 0 (0 ∷ 0 ∷ 140 ∷ [])) ∷
+    (809, bounding 32 4 32 0 (0 ∷ 0 ∷ 16 ∷ [])) ∷
+    (810, bounding 32 4 9 0 (0 ∷ 0 ∷ 14 ∷ [])) ∷
+    (811, bounding 1048576 1 0 1048576 (0 ∷ 0 ∷ 8396811 ∷ [])) ∷
+    (812, bounding 1048576 128 0 1048576 (0 ∷ 0 ∷ 1114123 ∷ [])) ∷
+    (813, bounding 32 4 16 16 (0 ∷ 0 ∷ 58 ∷ [])) ∷
+    (814, bounding 32 4 16 17 (13 ∷ 0 ∷ 0 ∷ [])) ∷
+    (815, bounding 32 4 32 1 (13 ∷ 0 ∷ 0 ∷ [])) ∷
+    (816, bounding 32 4 33 40 (15 ∷ 0 ∷ 0 ∷ [])) ∷
+    (817, bounding 32 4 33 0 (15 ∷ 0 ∷ 0 ∷ [])) ∷
+    (818, bounding 0 4 33 40 (4 ∷ 0 ∷ 0 ∷ [])) ∷
+    (819, bounding 1048577 4 0 0 (4 ∷ 0 ∷ 0 ∷ [])) ∷
+    (820, bounding 32 0 33 40 (4 ∷ 0 ∷ 0 ∷ [])) ∷
+    (821, bounding 32 129 0 0 (4 ∷ 0 ∷ 0 ∷ [])) ∷
+    (822, bounding 32 4 4294967295 4294967295 (15 ∷ 0 ∷ 0 ∷ [])) ∷
+    (823, bounding 32 4 0 4294967295 (13 ∷ 0 ∷ 0 ∷ [])) ∷
+    (824, bounding 4294967295 4294967295 4294967295 4294967295 (4 ∷ 0 ∷ 0 ∷ [])) ∷
+    []
+
 -- The one table. Its groups are computed apart, so that the check of a faulty definition names the rows that fail
 unfoldable pub readings : List (ℕ × Row)
-readings = paper-rows ++ (looking-rows ++ (search-rows ++ (asking-rows ++ (writing-rows ++ (program-rows ++ (file-rows ++ (unused-rows ++ (rubbish-rows ++ costing-rows))))))))
+readings = paper-rows ++ (looking-rows ++ (search-rows ++ (asking-rows ++ (writing-rows ++ (program-rows ++ (file-rows ++ (unused-rows ++ (rubbish-rows ++ (costing-rows ++ bounding-rows)))))))))
 
 -- all that a claim on one of its rows opens
 unfoldable pub all-rows : ℕ
-unfolding readings paper-rows looking-rows search-rows asking-rows writing-rows program-rows file-rows unused-rows rubbish-rows costing-rows
+unfolding readings paper-rows looking-rows search-rows asking-rows writing-rows program-rows file-rows unused-rows rubbish-rows costing-rows bounding-rows
 all-rows = 0
 
 paper-hold : failing paper-rows ≡ []
@@ -401,6 +432,10 @@ costing-hold : failing costing-rows ≡ []
 unfolding opened judged costing-rows
 costing-hold = refl
 
+bounding-hold : failing bounding-rows ≡ []
+unfolding opened judged bounding-rows
+bounding-hold = refl
+
 -- every row holds
 pub readings-hold : failing readings ≡ []
 unfolding readings
@@ -413,4 +448,5 @@ readings-hold =
     (joined program-rows _ program-hold
     (joined file-rows _ file-hold
     (joined unused-rows _ unused-hold
-    (joined rubbish-rows costing-rows rubbish-hold costing-hold))))))))
+    (joined rubbish-rows _ rubbish-hold
+    (joined costing-rows bounding-rows costing-hold bounding-hold)))))))))

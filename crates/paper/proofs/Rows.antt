@@ -17,6 +17,7 @@ use Rattle.paper.specs.Walk.{Try, tried}
 use Rattle.paper.specs.Ask.{askAnswer, askSlice}
 use Rattle.paper.specs.OneList.{testAnswer, countAnswer, partAnswer, lent}
 use Rattle.paper.specs.Write.{writeAnswer, writeBuffer}
+use Rattle.paper.specs.Reserve.{boundAnswer}
 use Rattle.paper.specs.Close.{closeAnswer, closeBuffer}
 use Rattle.paper.specs.Line.{Line, readLine}
 use Rattle.paper.specs.Line.Line.{usage, question}
@@ -36,6 +37,8 @@ pub data Row : Type 0 where
   lending : (index : List ℕ) (name : ℕ) (answer bytes : List ℕ) → Row
   -- u, B, the cut, the slots, the buffer before: number place length, and the buffer after
   writing : (u B cut : ℕ) (slots before answer after : List ℕ) → Row
+  -- u, B, the cut, how many slots above it: number place bytes
+  bounding : (u B cut n : ℕ) (answer : List ℕ) → Row
   -- the buffer before, u, B, D, the starts: number place length, and the buffer after
   closing : (before : List ℕ) (u B D : ℕ) (starts answer after : List ℕ) → Row
   -- the program's text: the way and the names, nothing for usage
@@ -87,6 +90,7 @@ holds (lending index name answer bytes) =
 holds (writing u B cut slots before answer after) =
     let a = writeAnswer u B cut slots (length before) in
     same (a .number ∷ a .place ∷ a .length ∷ []) answer && same (writeBuffer u B cut slots before) after
+holds (bounding u B cut n answer) = let a = boundAnswer u B cut n in same (a .number ∷ a .place ∷ a .bytes ∷ []) answer
 holds (closing before u B D starts answer after) =
     let a = closeAnswer before u B D starts in
     same (a .number ∷ a .place ∷ a .length ∷ []) answer && same (closeBuffer before u B D starts) after

@@ -16,6 +16,7 @@ pub mod Question
 pub mod Ask
 pub mod OneList
 pub mod Write
+pub mod Reserve
 pub mod Close
 pub mod Line
 pub mod Program

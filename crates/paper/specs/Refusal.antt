@@ -92,6 +92,10 @@ goodSlots u prev (x ∷ xs) = pick (leb x prev) 0 (pick (ltb u x) 0 (1 + goodSlo
 unfoldable pub fault13 : ℕ → List ℕ → Verdict → Verdict
 fault13 u slots rest = let good = goodSlots u 0 slots in pick (ltb good (length slots)) (verdict 13 good) rest
 
+-- 13, of n slots that are to lie above a cut, which leaves so many
+unfoldable pub fault13n : ℕ → ℕ → Verdict → Verdict
+fault13n left n rest = pick (ltb left n) (verdict 13 0) rest
+
 -- 14, of the way: 0 is plainly, 1 by skips
 unfoldable pub fault14 : ℕ → Verdict → Verdict
 fault14 way rest = pick (ltb 1 way) (verdict 14 0) rest

@@ -46,3 +46,10 @@ pub struct Part {
     pub start: u32,
     pub length: u32,
 }
+
+// The most bytes that a record can need.
+pub struct Bound {
+    pub number: u32,
+    pub place: u32,
+    pub bytes: u32,
+}

@@ -1,5 +1,5 @@
--- The promises: Promises, Questions, Searching, Positions, Writing, Closing, EndToEnd and Lines state them; RecordRows, IndexRows, AskRows, WriteRows and CloseRows say
--- the table's rows, EndToRuns the conditions from end to end, and LineTexts what a text spells; the other files prove.
+-- The promises: Promises, Questions, Searching, Positions, Writing, Reserving, Closing, EndToEnd and Lines state them; RecordRows, IndexRows, AskRows, WriteRows, ReserveRows and
+-- CloseRows say the table's rows, EndToRuns the conditions from end to end, and LineTexts what a text spells; the other files prove.
 pub mod Promises
 pub mod RecordRows
 pub mod IndexRows
@@ -56,6 +56,11 @@ pub mod WriteNumbers
 pub mod WriteAnswers
 pub mod WriteAgain
 pub mod WriteExamples
+pub mod Reserving
+pub mod ReserveRows
+pub mod ReserveGaps
+pub mod ReserveNumbers
+pub mod ReserveExamples
 pub mod Closing
 pub mod CloseRows
 pub mod CloseMade

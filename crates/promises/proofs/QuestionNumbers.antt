@@ -25,7 +25,7 @@ use Rattle.laws.proofs.Questions.{named-many, counts-many, named-at, count-at, 
 use Rattle.meaning.proofs.Rising.{Ascends}
 use Rattle.meaning.proofs.Orders.{order-least}
 use Rattle.meaning.proofs.Common.{same-test, same-slots, position-inside, ordered-at}
-use Rattle.promises.proofs.IndexRows.{Inside, Outside, Refused, WellFormed, ByTheTable}
+use Rattle.promises.proofs.IndexRows.{Inside, Outside, Refused, WellFormed, ByTheTable, Counts}
 use Rattle.promises.proofs.IndexReads.{well-k}
 use Rattle.promises.proofs.IndexFrame.{within-passes, within-fails}
 use Rattle.promises.proofs.IndexLists.{First, first-or}
@@ -128,6 +128,13 @@ same-rising u v xs ys a b h =
     same-slots u 0 v 0 xs ys a b
     λ x. same-test (has x xs) (has x ys) (λ p. has-in x ys (h x .0 (in-has x xs p))) (λ p. has-in x xs (h x .1 (in-has x ys p)))
 
+-- so there is one number of slots with a property
+pub counts-one : {u m n : ℕ} {P : ℕ → Type 0} → Counts u P m → Counts u P n → m ≡ n
+counts-one {u} s t =
+    let e = same-rising u u (s .slots) (t .slots) (s .rising) (t .rising)
+    λ x. (λ i. t .exactly x .1 (s .exactly x .0 i), λ i. s .exactly x .1 (t .exactly x .0 i)) in
+    sym (s .long) ∙ ap length e ∙ t .long
+
 -- THE TABLE
 module _ (bs : List ℕ) (all : AllBytes bs) where
   module _ (w : WellFormed bs) (name : ℕ) (l : name < w .trailer .k) where
@@ -137,10 +144,7 @@ module _ (bs : List ℕ) (all : AllBytes bs) where
 
     -- and no other number
     counted-one : (c : ℕ) → HasCount w name c → c ≡ countOf (recordOf bs name)
-    counted-one c h =
-        let e = same-rising (w .trailer .u) (w .trailer .u) (h .slots) (counted .slots) (h .rising) (counted .rising)
-        λ x. (λ i. counted .exactly x .1 (h .exactly x .0 i), λ i. h .exactly x .1 (counted .exactly x .0 i)) in
-        sym (h .long) ∙ ap length e ∙ counted .long
+    counted-one c h = counts-one h counted
 
   -- The room needed is the count of the smallest list named
   module _ (w : WellFormed bs) (names : List ℕ) (b : Below (w .trailer .k) names) (some : 0 < length names) where

@@ -210,3 +210,17 @@ module _ (u B cut : ℕ) (slots : List ℕ) (room : ℕ) where
   write-table =
       by-the-table (writeFault u B cut slots room) (WriteRefused u B cut slots room) (WriteAccepted u B cut slots room) write-gives write-nonzero write-passes
       write-either
+
+-- Where a writing is refused with 12, its slots can be written, and the buffer is shorter than their record
+pub record Short (u B cut : ℕ) (slots : List ℕ) (room : ℕ) : Type 0 where
+  pub writable : Writable u B cut slots
+  pub shorter : room < length (encode B cut slots)
+
+-- so it is of row 12
+pub twelve-short : (u B cut : ℕ) (slots : List ℕ) (room r p : ℕ) → WriteRefused u B cut slots room r p → r ≡ 12 → Short u B cut slots room
+twelve-short u B cut slots room r p (u-range o) z = absurd (omega arith)
+twelve-short u B cut slots room r p (B-range o) z = absurd (omega arith)
+twelve-short u B cut slots room r p (cut-above g l) z = absurd (omega arith)
+twelve-short u B cut slots room r p (not-above c front x behind e a n) z = absurd (omega arith)
+twelve-short u B cut slots room r p (beyond c front x behind e a l) z = absurd (omega arith)
+twelve-short u B cut slots room r p (no-room w bytes f l) z = record { writable = w; shorter = rw (← for-written f (w .rising)) l }

@@ -9,6 +9,7 @@ ghost use Rattle.paper.specs.Ask.{MeetsAsk};
 ghost use Rattle.paper.specs.Close.{MeetsClose};
 ghost use Rattle.paper.specs.OneList.{nameFault, MeetsTest, MeetsCount, MeetsLend, MeetsPart};
 ghost use Rattle.paper.specs.Write.{MeetsWrite};
+ghost use Rattle.paper.specs.Reserve.{MeetsBound};
 ghost use Rattle.slots.specs.Unmade.{unmade};
 ghost use Rattle.slots.specs.Unroomed.{unroomed, refusal};
 use closing::check_close;
@@ -22,6 +23,7 @@ use pack::check_write;
 use pack::lay_out;
 use pack::put_record;
 use paper::Answer;
+use paper::Bound;
 use paper::Counted;
 use paper::Part;
 use paper::Tested;
@@ -32,6 +34,8 @@ use question::answer_plainly;
 use question::check_names;
 use question::rank;
 use record::count_record;
+use reserve::check_bound;
+use reserve::most_bytes;
 use search::holds;
 
 // Looks at a whole index: 1 to 5, then its lists one after the other. The first fault found is the answer.
@@ -214,6 +218,26 @@ pub fn ask(index: &[u8], way: u32, names: &[u32], slots: &mut [u32]) -> Answer
         return answer_by_skips(index, names, &order, slots);
     }
     answer_plainly(index, names, &order, slots)
+}
+
+// Tells the most bytes that a record can need with this cut and n slots above it, so that room can be reserved before anything is written.
+pub fn bound(u: u32, block: u32, cut: u32, n: u32) -> Bound
+    ensures { λ r. ⌜ MeetsBound u block cut n r ⌝ }
+{
+    let number = check_bound(u, block, cut, n);
+    if number != 0 {
+        return Bound {
+            number,
+            place: 0,
+            bytes: 0,
+        };
+    }
+    let bytes = most_bytes(u, block, cut, n);
+    Bound {
+        number: 0,
+        place: 0,
+        bytes,
+    }
 }
 
 // The answer to a writing or a closing that is refused: nothing has been made.

@@ -11,6 +11,7 @@ use Rattle.paper.specs.Look.{look, MeetsLook}
 use Rattle.paper.specs.Ask.{askAnswer, MeetsAsk}
 use Rattle.paper.specs.OneList.{testAnswer, countAnswer, partAnswer, MeetsTest, MeetsCount, MeetsPart}
 use Rattle.paper.specs.Write.{writeAnswer, MeetsWrite}
+use Rattle.paper.specs.Reserve.{boundAnswer, MeetsBound}
 use Rattle.paper.specs.Close.{closeAnswer, MeetsClose}
 use Rattle.paper.specs.Lists.{bitOf, upFrom}
 use Rattle.paper.specs.Question.{places}
@@ -20,7 +21,8 @@ use Rattle.paper.specs.declared.Tested.{Tested}
 use Rattle.paper.specs.declared.Counted.{Counted}
 use Rattle.paper.specs.declared.Written.{Written}
 use Rattle.paper.specs.declared.Part.{Part}
-use Rattle.slots_c.specs.Exported.{verdictFields, answerFields, testedFields, countedFields, writtenFields, lentFields, fitted, Hands, HandsLook, HandsAsk, HandsTest, HandsCount, HandsLend, HandsWrite, HandsClose}
+use Rattle.paper.specs.declared.Bound.{Bound}
+use Rattle.slots_c.specs.Exported.{verdictFields, answerFields, testedFields, countedFields, writtenFields, boundFields, lentFields, fitted, Hands, HandsLook, HandsAsk, HandsTest, HandsCount, HandsLend, HandsBound, HandsWrite, HandsClose}
 
 -- a store behind the end changes nothing
 pub set-past : (l : List ℕ) (i v : ℕ) → length l ≤ i → l ≡ set l i v
@@ -143,6 +145,10 @@ module _ (index out out′ : List ℕ) where
           hands = handed (λ a. a .number) answerFields (askAnswer index way names (length before)) a out out′ (is .answers) q;
           slots = is .leaves;
         }
+
+pub bound-handed : (u B cut n : ℕ) (out out′ : List ℕ) (a : Bound) → MeetsBound u B cut n a → out′ ≡ fitted (boundFields a) out
+    → HandsBound u B cut n out (a .number) out′
+bound-handed u B cut n out out′ a = handed (λ a. a .number) boundFields (boundAnswer u B cut n) a out out′
 
 module _ (u B : ℕ) (before after out out′ : List ℕ) (a : Written) where
   pub write-handed :

@@ -9,6 +9,7 @@ use Rattle.paper.specs.Look.{look}
 use Rattle.paper.specs.Ask.{askAnswer, askSlice}
 use Rattle.paper.specs.OneList.{testAnswer, countAnswer, partAnswer}
 use Rattle.paper.specs.Write.{writeAnswer, writeBuffer}
+use Rattle.paper.specs.Reserve.{boundAnswer}
 use Rattle.paper.specs.Close.{closeAnswer, closeBuffer}
 use Rattle.paper.specs.declared.Verdict.{Verdict}
 use Rattle.paper.specs.declared.Answer.{Answer}
@@ -16,6 +17,7 @@ use Rattle.paper.specs.declared.Tested.{Tested}
 use Rattle.paper.specs.declared.Counted.{Counted}
 use Rattle.paper.specs.declared.Written.{Written}
 use Rattle.paper.specs.declared.Part.{Part}
+use Rattle.paper.specs.declared.Bound.{Bound}
 
 -- the fields of each kind of answer, in the order in which the caller finds them
 abbrev pub verdictFields : Verdict → List ℕ
@@ -34,6 +36,9 @@ countedFields a = a .number ∷ a .place ∷ a .count ∷ []
 
 abbrev pub writtenFields : Written → List ℕ
 writtenFields a = a .number ∷ a .place ∷ a .length ∷ []
+
+abbrev pub boundFields : Bound → List ℕ
+boundFields a = a .number ∷ a .place ∷ a .bytes ∷ []
 
 -- where the lent record lies; number and place are told by counting that list
 abbrev pub lentFields : Part → List ℕ
@@ -61,6 +66,9 @@ HandsCount index name out r out′ = let a = countAnswer index name in Hands (a 
 
 abbrev pub HandsLend : List ℕ → ℕ → List ℕ → ℕ → List ℕ → Type 0
 HandsLend index name out r out′ = let a = partAnswer index name in Hands (a .length) (lentFields a) out r out′
+
+abbrev pub HandsBound : ℕ → ℕ → ℕ → ℕ → List ℕ → ℕ → List ℕ → Type 0
+HandsBound u B cut n out r out′ = let a = boundAnswer u B cut n in Hands (a .number) (boundFields a) out r out′
 
 -- those with a further lent buffer promise the whole of it too
 pub record HandsAsk (index : List ℕ) (way : ℕ) (names before out : List ℕ) (r : ℕ) (after out′ : List ℕ) : Type 0 where

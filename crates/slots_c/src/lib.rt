@@ -7,8 +7,9 @@ ghost use mathlib.Core.List.{_∷_, []};
 ghost use lib.ListN.{set};
 ghost use lib.Seq.{sets};
 ghost use Rattle.paper.specs.Lists.{bitOf};
-ghost use Rattle.slots_c.specs.Exported.{fitted, HandsLook, HandsAsk, HandsTest, HandsCount, HandsLend, HandsWrite, HandsClose};
+ghost use Rattle.slots_c.specs.Exported.{fitted, HandsLook, HandsAsk, HandsTest, HandsCount, HandsLend, HandsBound, HandsWrite, HandsClose};
 use slots::ask;
+use slots::bound;
 use slots::close;
 use slots::count;
 use slots::look;
@@ -117,6 +118,16 @@ pub extern "C" fn slots_lend(index: &[u8], name: u32, out: &mut [u64]) -> u32
     let lies = part(index, name);
     put_two(out, lies.start, lies.length);
     lies.length
+}
+
+// out: number place bytes
+#[no_mangle]
+pub extern "C" fn slots_bound(u: u32, block: u32, cut: u32, n: u32, out: &mut [u64]) -> u32
+    ensures { λ r. ⌜ HandsBound u block cut n (now (out .entry)) r (now (out .exit)) ⌝ }
+{
+    let most = bound(u, block, cut, n);
+    put_three(out, most.number, most.place, most.bytes);
+    most.number
 }
 
 // out: number place length

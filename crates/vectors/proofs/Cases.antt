@@ -6,7 +6,7 @@ use mathlib.Core.List.{List, [], _∷_, _++_}
 use Rattle.paper.proofs.Hex.{hex}
 use Rattle.paper.proofs.Open.{opened}
 use Rattle.paper.proofs.Rows.{Row, failing, judged, joined}
-use Rattle.paper.proofs.Rows.Row.{looking, asking, testing, counting, lending, writing, closing, lining, running}
+use Rattle.paper.proofs.Rows.Row.{looking, asking, testing, counting, lending, writing, bounding, closing, lining, running}
 
 unfoldable pub cases1 : List (ℕ × Row)
 cases1 =
@@ -498,15 +498,55 @@ cases12 =
     (199, asking (hex 233 0x000000000400000002000000090000000000000028000000010000000c0e0000000006000000030000000300000000000000160000000100000028000000020000000507100a0000000700000003000000408011000000000000001c0000000100000029000000020000003c00000003000000040b0d000000000e00000007000000010000000000000009000000010000001200000002000000170000000300000024000000040000002c00000005000000340000000600000003020307030405000000001e0000004500000076000000010000003c0000000200000004000000c1000000534c4f54) 1 (3 ∷ 0 ∷ 3 ∷ 3 ∷ []) (3657796207 ∷ 873170046 ∷ 3648121703 ∷ 89985968 ∷ []) (0 ∷ 0 ∷ 3 ∷ 32 ∷ 7 ∷ []) (12 ∷ 0 ∷ 10 ∷ 10 ∷ []) (3 ∷ 0 ∷ 2 ∷ 2 ∷ []) (9 ∷ 22 ∷ 40 ∷ 0 ∷ [])) ∷
     -- sixteen names of four lists
     (200, asking (hex 233 0x000000000400000002000000090000000000000028000000010000000c0e0000000006000000030000000300000000000000160000000100000028000000020000000507100a0000000700000003000000408011000000000000001c0000000100000029000000020000003c00000003000000040b0d000000000e00000007000000010000000000000009000000010000001200000002000000170000000300000024000000040000002c00000005000000340000000600000003020307030405000000001e0000004500000076000000010000003c0000000200000004000000c1000000534c4f54) 1 (3 ∷ 2 ∷ 1 ∷ 3 ∷ 1 ∷ 2 ∷ 0 ∷ 3 ∷ 0 ∷ 1 ∷ 2 ∷ 3 ∷ 2 ∷ 1 ∷ 0 ∷ 3 ∷ []) (1852432902 ∷ 1211499544 ∷ 2074839687 ∷ 185742205 ∷ 272297873 ∷ 4198368455 ∷ 1145667927 ∷ []) (0 ∷ 0 ∷ 3 ∷ 94 ∷ 27 ∷ []) (10 ∷ 4 ∷ 5 ∷ 10 ∷ 5 ∷ 4 ∷ 0 ∷ 10 ∷ 4 ∷ 5 ∷ 4 ∷ 10 ∷ 4 ∷ 5 ∷ 4 ∷ 10 ∷ []) (2 ∷ 2 ∷ 2 ∷ 2 ∷ 1 ∷ 2 ∷ 0 ∷ 2 ∷ 2 ∷ 1 ∷ 2 ∷ 2 ∷ 2 ∷ 1 ∷ 2 ∷ 2 ∷ []) (9 ∷ 22 ∷ 40 ∷ 0 ∷ 0 ∷ 0 ∷ 0 ∷ [])) ∷
+    -- as large as slots 1 and 130
+    (201, bounding 130 128 0 2 (0 ∷ 0 ∷ 22 ∷ [])) ∷
+    -- the paper's list 0
+    (202, bounding 32 4 0 15 (0 ∷ 0 ∷ 55 ∷ [])) ∷
+    -- the paper's list 1
+    (203, bounding 32 4 16 3 (0 ∷ 0 ∷ 24 ∷ [])) ∷
+    -- U 128, all in the tail
+    (204, bounding 130 5 2 128 (0 ∷ 0 ∷ 323 ∷ [])) ∷
     []
 
 holds12 : failing cases12 ≡ []
 unfolding opened judged cases12
 holds12 = refl
 
+unfoldable pub cases13 : List (ℕ × Row)
+cases13 =
+    -- U 129, a cut within a byte
+    (205, bounding 146 2 17 3 (0 ∷ 0 ∷ 33 ∷ [])) ∷
+    -- U 16384, largest u, B 128
+    (206, bounding 1048576 128 1032192 129 (0 ∷ 0 ∷ 129306 ∷ [])) ∷
+    -- U 16385, no tail
+    (207, bounding 16385 1 0 0 (0 ∷ 0 ∷ 140 ∷ [])) ∷
+    -- cut = u within a byte
+    (208, bounding 41 7 41 0 (0 ∷ 0 ∷ 18 ∷ [])) ∷
+    -- largest u, B 1, all in the tail
+    (209, bounding 1048576 1 0 1048576 (0 ∷ 0 ∷ 8396811 ∷ [])) ∷
+    -- u one too large, cut wild
+    (210, bounding 1048577 128 4294967295 0 (4 ∷ 0 ∷ 0 ∷ [])) ∷
+    -- B one too large, cut too, n wild
+    (211, bounding 32 129 33 4294967295 (4 ∷ 0 ∷ 0 ∷ [])) ∷
+    -- B 0, n above U
+    (212, bounding 32 0 0 33 (4 ∷ 0 ∷ 0 ∷ [])) ∷
+    -- cut u + 1, n wild
+    (213, bounding 32 4 33 4294967295 (15 ∷ 0 ∷ 0 ∷ [])) ∷
+    -- cut wild
+    (214, bounding 32 4 4294967295 0 (15 ∷ 0 ∷ 0 ∷ [])) ∷
+    -- U 128, n one above it
+    (215, bounding 130 5 2 129 (13 ∷ 0 ∷ 0 ∷ [])) ∷
+    -- n whose sum with the cut wraps
+    (216, bounding 32 4 2 4294967295 (13 ∷ 0 ∷ 0 ∷ [])) ∷
+    []
+
+holds13 : failing cases13 ≡ []
+unfolding opened judged cases13
+holds13 = refl
+
 -- all cases as one table
 unfoldable pub cases : List (ℕ × Row)
-cases = cases1 ++ (cases2 ++ (cases3 ++ (cases4 ++ (cases5 ++ (cases6 ++ (cases7 ++ (cases8 ++ (cases9 ++ (cases10 ++ (cases11 ++ cases12))))))))))
+cases = cases1 ++ (cases2 ++ (cases3 ++ (cases4 ++ (cases5 ++ (cases6 ++ (cases7 ++ (cases8 ++ (cases9 ++ (cases10 ++ (cases11 ++ (cases12 ++ cases13)))))))))))
 
 -- the definitions give what the second implementation gave, in every case
 pub cases-hold : failing cases ≡ []
@@ -522,4 +562,5 @@ cases-hold =
     (joined cases8 _ holds8
     (joined cases9 _ holds9
     (joined cases10 _ holds10
-    (joined cases11 cases12 holds11 holds12))))))))))
+    (joined cases11 _ holds11
+    (joined cases12 cases13 holds12 holds13)))))))))))

@@ -1,5 +1,5 @@
-//! Cases of what each position of a question costs. They stand behind all
-//! others, so that these keep their numbers.
+//! Cases of what each position of a question costs. They stand behind those of
+//! all operations that there were before them, so that these keep their numbers.
 
 use super::shape::*;
 use super::Deck;

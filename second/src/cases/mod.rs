@@ -6,13 +6,14 @@
 //! either is `-`. The README tells the fields of each operation.
 
 mod asking;
+mod bounds;
 mod costs;
 mod looking;
 mod others;
 pub(crate) mod shape;
 
 use crate::random::Random;
-use crate::{ask, close, count, lend, look, part, program, read_line, test, write};
+use crate::{ask, bound, close, count, lend, look, part, program, read_line, test, write};
 
 /// All cases, the same on every run.
 pub fn all() -> Vec<String> {
@@ -22,6 +23,7 @@ pub fn all() -> Vec<String> {
     asking::add(&mut deck, &mut random);
     others::add(&mut deck, &mut random);
     costs::add(&mut deck, &mut random);
+    bounds::add(&mut deck);
     deck.lines
 }
 
@@ -119,6 +121,21 @@ impl Deck {
             hex(&room),
         ];
         self.keep("write", &fields, label);
+    }
+
+    fn bound(&mut self, label: &str, sizes: [u32; 3], n: u32) {
+        let [u, block, cut] = sizes;
+        let a = bound(u, block, cut, n);
+        let fields = [
+            u.to_string(),
+            block.to_string(),
+            cut.to_string(),
+            n.to_string(),
+            a.number.to_string(),
+            a.place.to_string(),
+            a.bytes.to_string(),
+        ];
+        self.keep("bound", &fields, label);
     }
 
     fn close(&mut self, label: &str, before: &[u8], sizes: [u32; 3], starts: &[u32]) {

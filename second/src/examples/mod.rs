@@ -9,7 +9,7 @@ mod looking;
 mod writing;
 
 use crate::cases::shape::{index, raw};
-use crate::{ask, close, count, look, part, test, write};
+use crate::{ask, bound, close, count, look, part, test, write};
 
 /// All examples, always in this order.
 pub fn all() -> Vec<String> {
@@ -28,6 +28,7 @@ pub fn all() -> Vec<String> {
     writing::closing(&mut page);
     writing::closing_refused(&mut page);
     writing::closing_rubbish(&mut page);
+    writing::bounds(&mut page);
     page.lines
 }
 
@@ -125,6 +126,14 @@ impl Page {
             let line = self.lines.last_mut().expect("the line just kept");
             *line += &format!(" {bytes}");
         }
+    }
+
+    /// The label tells all that is given.
+    fn bound(&mut self, given: [u32; 4]) {
+        let [u, block, cut, n] = given;
+        let label = format!("bound {u} {block} {cut} {n}");
+        let a = bound(u, block, cut, n);
+        self.keep(&label, &[a.number, a.place, a.bytes].map(u64::from));
     }
 
     /// Also gives what the buffer holds afterwards.

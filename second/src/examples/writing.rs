@@ -1,7 +1,7 @@
-//! Examples of writing records and closing an index.
+//! Examples of writing records, closing an index, and how large a record can be.
 
 use super::{paper, paper_records, rubbish_records, Page, DUST};
-use crate::cases::shape::{starts, PAPER_0, PAPER_1};
+use crate::cases::shape::{starts, PAPER_0, PAPER_1, WILD};
 
 /// Bytes for which there is room where an example says nothing else.
 const ROOM: usize = 64;
@@ -73,4 +73,19 @@ pub fn closing_rubbish(page: &mut Page) {
     room[..bytes.len()].copy_from_slice(&bytes);
     let sizes = [32, 2, bytes.len() as u32];
     page.close("close rubbish", &room, sizes, &starts(&records));
+}
+
+/// How large a record can be: where a record is as large, where each part of the
+/// sum grows, and refusals with more than one reason.
+pub fn bounds(page: &mut Page) {
+    page.bound([130, 128, 0, 2]);
+    page.bound([129, 128, 0, 2]);
+    page.bound([16_385, 1, 0, 0]);
+    page.bound([16_393, 128, 9, 129]);
+    page.bound([32, 4, 0, 15]);
+    page.bound([32, 4, 16, 3]);
+    page.bound([1_048_576, 1, 0, 1_048_576]);
+    page.bound([32, 4, 16, 17]);
+    page.bound([32, 4, 33, WILD]);
+    page.bound([0, 4, WILD, WILD]);
 }

@@ -61,7 +61,7 @@ impl Case {
     fn refusal(&self) -> Option<u32> {
         let at = match self.operation.as_str() {
             "look" => 1,
-            "ask" => 4,
+            "ask" | "bound" => 4,
             "test" => 3,
             "count" | "part" => 2,
             "write" | "close" => 5,
@@ -111,12 +111,13 @@ fn form_and_size() {
         ("count", 5),
         ("part", 7),
         ("write", 9),
+        ("bound", 7),
         ("close", 9),
         ("program", 3),
         ("line", 2),
     ]);
     let cases = cases();
-    assert!((140..=210).contains(&cases.len()), "{}", cases.len());
+    assert!((150..=220).contains(&cases.len()), "{}", cases.len());
     assert!(all().iter().map(|line| line.len() + 1).sum::<usize>() < 120_000);
     let mut labels = BTreeSet::new();
     let mut operations = BTreeMap::new();
@@ -143,6 +144,7 @@ fn form_and_size() {
         ("count", 5),
         ("part", 5),
         ("write", 15),
+        ("bound", 12),
         ("close", 15),
         ("program", 8),
         ("line", 6),
@@ -164,13 +166,14 @@ fn every_number_is_given() {
     for number in 0..=17 {
         assert!(overall.get(&number) >= Some(&2), "{number}");
     }
-    let own: [(&str, &[u32]); 7] = [
+    let own: [(&str, &[u32]); 8] = [
         ("look", &[0, 1, 2, 3, 4, 5, 6, 7, 8, 9, 17]),
         ("ask", &[0, 10, 11, 12, 14]),
         ("test", &[0, 11, 16]),
         ("count", &[0, 11]),
         ("part", &[0, 11]),
         ("write", &[0, 4, 12, 13, 15]),
+        ("bound", &[0, 4, 13, 15]),
         ("close", &[0, 1, 4, 5, 6, 7, 8, 9, 12, 17]),
     ];
     for (operation, numbers) in own {
@@ -502,6 +505,10 @@ fn wild_numbers_in_every_field() {
                 seen.note("u", is_wild(case.number(0)));
                 seen.note("B", is_wild(case.number(1)));
                 seen.note("cut", is_wild(case.number(2)));
+            }
+            "bound" => {
+                seen.note("cut bounded", is_wild(case.number(2)));
+                seen.note("n bounded", is_wild(case.number(3)));
             }
             "close" => {
                 seen.note("B closed", is_wild(case.number(2)));
@@ -875,6 +882,58 @@ fn writes_of_every_kind() {
     }
     seen.expect(1);
     assert!(code_sizes.iter().all(|&many| many > 0), "{code_sizes:?}");
+}
+
+#[test]
+fn bounds_of_every_kind() {
+    let mut seen = Seen::default();
+    for case in of("bound") {
+        let [u, block, cut, n] = [0, 1, 2, 3].map(|i| case.number(i));
+        let [number, place, bytes] = [4, 5, 6].map(|i| case.number(i));
+        assert_eq!(place, 0);
+        if number == 0 {
+            assert_eq!(bytes, model::most(u, block, cut, n), "{}", case.label);
+            note_sum(&mut seen, [u, block, cut], n);
+        } else {
+            assert_eq!(bytes, 0);
+            note_reasons(&mut seen, number, [u, block, cut], n);
+        }
+    }
+    seen.expect(1);
+}
+
+/// Where the parts of an accepted bound are about to grow, or have just grown.
+fn note_sum(seen: &mut Seen, sizes: [u32; 3], n: u32) {
+    let [u, block, cut] = sizes;
+    let slots = u - cut;
+    seen.note("U 128", slots == 128);
+    seen.note("U 129", slots == 129);
+    seen.note("U 130", slots == 130);
+    seen.note("U 16384", slots == 16_384);
+    seen.note("U 16385", slots == 16_385);
+    seen.note("no tail, but slots behind the cut", n == 0 && slots > 129);
+    seen.note("n = U", n == slots && n > 0);
+    seen.note("cut = u", cut == u);
+    seen.note("a cut within a byte", cut % 8 != 0);
+    seen.note("a last block within", !n.is_multiple_of(block));
+    seen.note("largest u, B 1", u == 1_048_576 && block == 1);
+    seen.note("largest u, B 128", u == 1_048_576 && block == 128);
+}
+
+/// Why a bound is refused, and what would have been a reason behind it.
+fn note_reasons(seen: &mut Seen, number: u32, sizes: [u32; 3], n: u32) {
+    let [u, block, cut] = sizes;
+    let crowded = cut <= u && n > u - cut;
+    seen.note("u one too large", number == 4 && u == 1_048_577);
+    seen.note("B one too large", number == 4 && block == 129);
+    seen.note("B 0", number == 4 && block == 0);
+    seen.note("4 before 15", number == 4 && cut > u);
+    seen.note("4 before 13", number == 4 && crowded);
+    seen.note("15 with n above u", number == 15 && n > u);
+    seen.note("cut one too large", number == 15 && cut == u + 1);
+    seen.note("n one too large", number == 13 && n == u - cut + 1);
+    let wraps = n.checked_add(cut).is_none();
+    seen.note("n and cut would wrap", number == 13 && wraps);
 }
 
 /// What is wrong with starts, where 5 refuses them. Noted for every closing, so

@@ -1,6 +1,7 @@
-//! A reader of sound indexes and a teller of searches, written only to be
-//! compared with. It takes other roads than the package: tails are decoded in
-//! one run without their offsets, and searches are told from plain slots.
+//! A reader of sound indexes and a teller of searches and sizes, written only to
+//! be compared with. It takes other roads than the package: tails are decoded in
+//! one run without their offsets, searches are told from plain slots, and sizes
+//! are counted out in steps.
 
 /// One list as slots.
 pub struct List {
@@ -235,4 +236,14 @@ pub fn question(index: &Index, names: &[u32]) -> (Vec<u32>, Vec<Visit>) {
         visits.push(visit);
     }
     (candidates, visits)
+}
+
+/// How large a record can be. Nothing is divided: parts that are begun count for
+/// the bits and the blocks, and parts that are full for the longer codes.
+pub fn most(u: u32, block: u32, cut: u32, n: u32) -> u32 {
+    let begun = |whole: u32, part: u32| (0..whole).step_by(part as usize).count() as u32;
+    let full = |whole: u32, part: u32| (part..=whole).step_by(part as usize).count() as u32;
+    let m = begun(n, block);
+    let longer = full(u - cut, 129) + full(u - cut, 16_385);
+    12 + begun(cut, 8) + 8 * m + (n - m) + longer
 }

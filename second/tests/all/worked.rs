@@ -32,8 +32,8 @@ fn each_has_its_own_label() {
         .iter()
         .map(|line| line.split_once(": ").expect("a colon").0)
         .collect();
-    assert_eq!(lines.len(), 137);
-    assert_eq!(labels.len(), 137);
+    assert_eq!(lines.len(), 147);
+    assert_eq!(labels.len(), 147);
 }
 
 #[test]
@@ -300,7 +300,7 @@ fn the_lines_about_rubbish_have_their_places() {
     follows("L without tail", "cut 9, bits 80 80");
     follows("17 and a faulty block", "write gap 16384");
     follows("close B 129", "close rubbish");
-    assert_eq!(labels.last(), Some(&"close rubbish"));
+    follows("close rubbish", "bound 130 128 0 2");
 }
 
 #[test]
@@ -381,4 +381,57 @@ fn closing() {
         ("close total FFFFFFFF", "1 0 0"),
         ("close B 129", "4 0 0"),
     ]);
+}
+
+#[test]
+fn how_large_a_record_can_be() {
+    says(&[
+        // Head 12, one entry 8, one code 1, and 130 has room for one 129.
+        ("bound 130 128 0 2", "0 0 22"),
+        ("bound 129 128 0 2", "0 0 22"),
+        // 12, then 127 times 129 is 16,383, and one 16,385.
+        ("bound 16385 1 0 0", "0 0 140"),
+        // 12, two bytes of bits, two entries, 127 codes; behind the cut lie 16,384
+        // slots: 127 times 129 and no 16,385.
+        ("bound 16393 128 9 129", "0 0 284"),
+        // The lengths of the paper's two records.
+        ("bound 32 4 0 15", "0 0 55"),
+        ("bound 32 4 16 3", "0 0 24"),
+        // 12, 8 for each slot; 8,128 times 129 is 1,048,512 and 63 times 16,385
+        // is 1,032,255.
+        ("bound 1048576 1 0 1048576", "0 0 8396811"),
+    ]);
+}
+
+#[test]
+fn how_large_a_record_can_be_refused() {
+    says(&[
+        // Behind the cut lie 16 slots.
+        ("bound 32 4 16 17", "13 0 0"),
+        ("bound 32 4 33 4294967295", "15 0 0"),
+        ("bound 0 4 4294967295 4294967295", "4 0 0"),
+    ]);
+}
+
+#[test]
+fn the_lines_about_sizes_are_the_last() {
+    let lines = examples::all();
+    let labels: Vec<&str> = lines
+        .iter()
+        .map(|line| line.split_once(": ").expect("a colon").0)
+        .collect();
+    let last = [
+        "close rubbish",
+        "bound 130 128 0 2",
+        "bound 129 128 0 2",
+        "bound 16385 1 0 0",
+        "bound 16393 128 9 129",
+        "bound 32 4 0 15",
+        "bound 32 4 16 3",
+        "bound 1048576 1 0 1048576",
+        "bound 32 4 16 17",
+        "bound 32 4 33 4294967295",
+        "bound 0 4 4294967295 4294967295",
+    ];
+    assert_eq!(labels[labels.len() - last.len()..], last);
 }

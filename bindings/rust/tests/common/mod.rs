@@ -1,8 +1,9 @@
-//! What the tests share: the example index of docs/FORMAT.md with its lists, and short ways to spoil it
-//! and to say what is expected.
+//! What the tests share: the example index of docs/FORMAT.md with its lists, short ways to spoil it and
+//! to say what is expected, and numbers and lists made at random.
 #![allow(dead_code)] // Each file of tests is a program of its own and uses its part of this.
 
 use slots::{Refusal, Refused};
+use std::collections::BTreeSet;
 use std::path::PathBuf;
 
 /// How many slots the rack of the example has.
@@ -50,4 +51,29 @@ pub fn refused<T>(refusal: Refusal, place: u32) -> Result<T, Refused> {
 /// A file of the repository, by its path from there.
 pub fn repository(path: &str) -> PathBuf {
     PathBuf::from(env!("CARGO_MANIFEST_DIR")).join("../..").join(path)
+}
+
+/// The xorshift generator of 64 bits, by its seed, which must not be 0.
+pub struct Random(pub u64);
+
+impl Random {
+    /// A number from `low` to `high`, both included.
+    pub fn between(&mut self, low: u32, high: u32) -> u32 {
+        self.0 ^= self.0 << 13;
+        self.0 ^= self.0 >> 7;
+        self.0 ^= self.0 << 17;
+        let span = u64::from(high - low) + 1;
+        low + u32::try_from((self.0 >> 16) % span).expect("less than the span")
+    }
+
+    pub fn one_of<T: Copy>(&mut self, choices: &[T]) -> T {
+        let last = u32::try_from(choices.len() - 1).expect("few choices");
+        choices[self.between(0, last) as usize]
+    }
+
+    /// A list that is empty, full, crowded or thin.
+    pub fn list(&mut self, u: u32) -> BTreeSet<u32> {
+        let one_in = self.one_of(&[1, 2, 3, 10, 200, u32::MAX]);
+        (1..=u).filter(|_| self.between(1, one_in) == 1).collect()
+    }
 }
