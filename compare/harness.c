@@ -1,6 +1,6 @@
 /* Calls the functions of the archive on requests from standard input and writes back all that they left behind.
  *
- * A request is seventeen numbers of four bytes, lowest byte first: the function, the side, three plain arguments, and for each of the four
+ * A request is eighteen numbers of four bytes, lowest byte first: the function, the side, four plain arguments, and for each of the four
  * buffers how many guard elements stand before it, how many elements it has, how many guard elements stand behind it. The four images (guard,
  * buffer, guard) follow. An answer is the number returned and the four images as they are after the call, whether the function was to
  * write to them or not.
@@ -28,10 +28,11 @@ u32 slots_count(const u8 *index, u64 size, u32 name, u64 *out, u64 outs);
 u32 slots_lend(const u8 *index, u64 size, u32 name, u64 *out, u64 outs);
 u32 slots_write(u32 u, u32 block, u32 cut, const u32 *slots, u64 many, u8 *room, u64 size, u64 *out, u64 outs);
 u32 slots_close(u8 *room, u64 size, u32 u, u32 block, u32 total, const u32 *starts, u64 many, u64 *out, u64 outs);
+u32 slots_bound(u32 u, u32 block, u32 cut, u32 n, u64 *out, u64 outs);
 
 enum { NOTHING = 0, READ_WRITE = 3, PRIVATE_FRESH = 0x22 };
 enum { STOPPED = 3, NO_MEMORY = 4, BAD_REQUEST = 5 };
-enum { FIELDS = 4, PLAIN = 5, HEADER = PLAIN + 3 * FIELDS };
+enum { FIELDS = 4, PLAIN = 6, HEADER = PLAIN + 3 * FIELDS };
 
 /* A multiple of the page length of every machine this may run on. */
 #define WALL 65536ul
@@ -136,7 +137,7 @@ static u32 call(const u32 *h) {
     u32 *given = (u32 *)fields[1].buffer, *slots = (u32 *)fields[2].buffer;
     u64 *answer = (u64 *)fields[3].buffer;
     u64 size = fields[0].length, many = fields[1].length, room = fields[2].length, answers = fields[3].length;
-    u32 x = h[2], y = h[3], z = h[4];
+    u32 x = h[2], y = h[3], z = h[4], w = h[5];
     switch (h[0]) {
     case 0: return slots_look(bytes, size, answer, answers);
     case 1: return slots_ask(bytes, size, x, given, many, slots, room, answer, answers);
@@ -145,7 +146,8 @@ static u32 call(const u32 *h) {
     case 4: return slots_lend(bytes, size, x, answer, answers);
     case 5: return slots_write(x, y, z, given, many, bytes, size, answer, answers);
     case 6: return slots_close(bytes, size, x, y, z, given, many, answer, answers);
-    case 7: return step_out(h[1], x);
+    case 7: return slots_bound(x, y, z, w, answer, answers);
+    case 8: return step_out(h[1], x);
     }
     _exit(BAD_REQUEST);
     return 0;

@@ -59,7 +59,7 @@ enum slots_refusal {
     SLOTS_BAD_NAMES = 10,  /* the question has no name, or more than 16 */
     SLOTS_NO_LIST = 11,    /* there is no list of that name; place: the position of the first such name, 0 where the call has one name */
     SLOTS_NO_ROOM = 12,    /* the room is too small; place: the room needed, in slots for slots_ask and in bytes for the others */
-    SLOTS_NOT_RISING = 13, /* the slots to be written do not rise strictly within 1..u, or more are to lie above the cut than there are; place: the position of the first bad one, 0 for slots_bound */
+    SLOTS_NOT_RISING = 13, /* the slots to be written do not rise strictly within 1..u, or more are to lie above the cut than there are slots there; place: the position of the first bad one, 0 for slots_bound */
     SLOTS_BAD_WAY = 14,    /* the way is neither 0 (plain) nor 1 (by skips) */
     SLOTS_BAD_CUT = 15,    /* the cut is above u */
     SLOTS_OUTSIDE = 16,    /* the slot to be tested is not in 1..u */
@@ -176,7 +176,7 @@ static inline const char *slots_reason(uint32_t number) {
         "the question has no name, or more than 16",
         "there is no list of that name",
         "the room is too small",
-        "the slots to be written do not rise strictly within 1..u, or more are to lie above the cut than there are",
+        "the slots to be written do not rise strictly within 1..u, or more are to lie above the cut than there are slots there",
         "the way is neither 0 (plain) nor 1 (by skips)",
         "the cut is above u",
         "the slot to be tested is not in 1..u",

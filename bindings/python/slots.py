@@ -113,7 +113,7 @@ _REASONS: Dict[int, str] = {
     Refusal.BAD_NAMES: "the question has no name, or more than 16",
     Refusal.NO_LIST: "there is no list of that name",
     Refusal.NO_ROOM: "the room is too small",
-    Refusal.NOT_RISING: "the slots to be written do not rise strictly within 1..u, or more are to lie above the cut than there are",
+    Refusal.NOT_RISING: "the slots to be written do not rise strictly within 1..u, or more are to lie above the cut than there are slots there",
     Refusal.BAD_WAY: "the way is neither 0 (plain) nor 1 (by skips)",
     Refusal.BAD_CUT: "the cut is above u",
     Refusal.OUTSIDE: "the slot to be tested is not in 1..u",
@@ -128,7 +128,7 @@ _PLACES: Dict[int, str] = {
     Refusal.BAD_SLOT: "list {}",
     Refusal.NO_LIST: "name at position {}",
     Refusal.NO_ROOM: "room needed: {}",
-    Refusal.NOT_RISING: "slot at position {}",
+    Refusal.NOT_RISING: "position {}",
     Refusal.BAD_BITS: "list {}",
 }
 

@@ -15,13 +15,26 @@ pub enum Call {
     Lend { name: u32 },
     Write { u: u32, block: u32, cut: u32 },
     Close { u: u32, block: u32, total: u32 },
+    Bound(Sizes),
+}
+
+/// What is known of a record before it is written; n is how many of its slots
+/// lie above the cut.
+#[derive(Clone, Copy, Debug, PartialEq)]
+pub struct Sizes {
+    pub u: u32,
+    pub block: u32,
+    pub cut: u32,
+    pub n: u32,
 }
 
 /// Where in a question's answer the looks of each position stand, and the codes.
 pub const LOOKS_AT: Range<usize> = 5..21;
 pub const CODES_AT: Range<usize> = 21..37;
 
-pub const CALLS: [&str; 7] = ["look", "ask", "test", "count", "lend", "write", "close"];
+pub const CALLS: [&str; 8] = [
+    "look", "ask", "test", "count", "lend", "write", "close", "bound",
+];
 
 impl Call {
     /// Its place among the functions, as the harness numbers them.
@@ -34,18 +47,20 @@ impl Call {
             Call::Lend { .. } => 4,
             Call::Write { .. } => 5,
             Call::Close { .. } => 6,
+            Call::Bound(_) => 7,
         }
     }
 
     /// Its plain arguments, with zeros where it has none.
-    pub fn plain(self) -> [u32; 3] {
+    pub fn plain(self) -> [u32; 4] {
         match self {
-            Call::Look => [0, 0, 0],
-            Call::Ask { way } => [way, 0, 0],
-            Call::Test { name, slot } => [name, slot, 0],
-            Call::Count { name } | Call::Lend { name } => [name, 0, 0],
-            Call::Write { u, block, cut } => [u, block, cut],
-            Call::Close { u, block, total } => [u, block, total],
+            Call::Look => [0, 0, 0, 0],
+            Call::Ask { way } => [way, 0, 0, 0],
+            Call::Test { name, slot } => [name, slot, 0, 0],
+            Call::Count { name } | Call::Lend { name } => [name, 0, 0, 0],
+            Call::Write { u, block, cut } => [u, block, cut, 0],
+            Call::Close { u, block, total } => [u, block, total, 0],
+            Call::Bound(Sizes { u, block, cut, n }) => [u, block, cut, n],
         }
     }
 
@@ -200,13 +215,7 @@ impl Case {
                 let a = second::look(index);
                 answer(a.number, a.place, &[])
             }
-            Call::Ask { way } => {
-                let a = second::ask(index, way, given, &mut after.slots);
-                let mut more = vec![u64::from(a.count), a.looks, a.codes];
-                more.extend(a.looks_at);
-                more.extend(a.codes_at);
-                answer(a.number, a.place, &more)
-            }
+            Call::Ask { way } => with_costs(second::ask(index, way, given, &mut after.slots)),
             Call::Test { name, slot } => {
                 let a = second::test(index, name, slot);
                 answer(a.number, a.place, &[u64::from(a.yes)])
@@ -228,6 +237,10 @@ impl Case {
             Call::Close { u, block, total } => {
                 let a = second::close(&mut after.bytes, u, block, total, given);
                 answer(a.number, a.place, &[u64::from(a.length)])
+            }
+            Call::Bound(Sizes { u, block, cut, n }) => {
+                let a = second::bound(u, block, cut, n);
+                answer(a.number, a.place, &[u64::from(a.bytes)])
             }
         }
     }
@@ -251,6 +264,14 @@ fn answer(number: u32, place: u32, more: &[u64]) -> (Verdict, Vec<u64>, u32) {
     let mut numbers = vec![u64::from(number), u64::from(place)];
     numbers.extend(more);
     ((number, place), numbers, number)
+}
+
+/// A question's answer, with the costs of all positions.
+fn with_costs(a: second::Answer) -> (Verdict, Vec<u64>, u32) {
+    let mut more = vec![u64::from(a.count), a.looks, a.codes];
+    more.extend(a.looks_at);
+    more.extend(a.codes_at);
+    answer(a.number, a.place, &more)
 }
 
 /// So much of a long buffer is shown.

@@ -8,6 +8,7 @@ use crate::damage::{several, single, wild, Damaged};
 use crate::hurt::Fault;
 use crate::make::some_shelf;
 use crate::one;
+use crate::reserve::{bound, reserved};
 use crate::writing::write;
 use second::random::Random;
 
@@ -17,22 +18,24 @@ pub fn cases(seed: u64, number: u64) -> Vec<Case> {
     let mut random = stream(seed, number);
     let random = &mut random;
     let case = match random.below(100) {
-        0..=4 => {
+        0..=3 => {
             let shelf = some_shelf(random);
             Case::new("a sound index", Call::Look, shelf.index())
                 .out(random)
                 .accepted()
         }
-        5..=30 => damaged(random, single),
-        31..=40 => damaged(random, several),
-        41..=48 => damaged(random, wild),
-        49..=67 => ask::question(random),
-        68..=72 => ask::far(random),
-        73..=77 => one::test(random),
-        78..=80 => one::count(random),
-        81..=83 => one::lend(random),
-        84..=90 => write(random),
-        91..=97 => close(random),
+        4..=27 => damaged(random, single),
+        28..=37 => damaged(random, several),
+        38..=45 => damaged(random, wild),
+        46..=64 => ask::question(random),
+        65..=67 => ask::far(random),
+        68..=71 => one::test(random),
+        72..=75 => one::count(random),
+        76..=78 => one::lend(random),
+        79..=85 => write(random),
+        86..=92 => close(random),
+        93..=95 => bound(random),
+        96..=97 => return reserved(random),
         _ => return chain(random),
     };
     vec![case]

@@ -7,7 +7,7 @@ use second::random::Random;
 use std::ops::Range;
 
 /// What a lie alters.
-pub const LIES: [&str; 10] = [
+pub const LIES: [&str; 11] = [
     "the number returned",
     "a number of the answer",
     "a slot of the answer",
@@ -18,6 +18,7 @@ pub const LIES: [&str; 10] = [
     "a guard behind",
     "the last zero behind the slots",
     "the cost of a position",
+    "the bytes of a bound",
 ];
 
 /// An answer with one byte changed, where the case has such a byte.
@@ -44,7 +45,8 @@ pub fn told(
             let slots = part(Part::Within, 2);
             slots.end.saturating_sub(4).max(slots.start)..slots.end
         }
-        _ => costs(case, part(Part::Within, 3)),
+        9 => costs(case, part(Part::Within, 3)),
+        _ => bytes(case, part(Part::Within, 3)),
     };
     if range.is_empty() {
         return None;
@@ -62,6 +64,14 @@ fn costs(case: &Case, out: Range<usize>) -> Range<usize> {
             let from = out.start + 8 * LOOKS_AT.start;
             from..out.end.min(out.start + 8 * CODES_AT.end)
         }
+        _ => 0..0,
+    }
+}
+
+/// The last number that a bound tells, where the slice has a place for it.
+fn bytes(case: &Case, out: Range<usize>) -> Range<usize> {
+    match case.call {
+        Call::Bound(_) => out.start + 8 * 2..out.end.min(out.start + 8 * 3),
         _ => 0..0,
     }
 }

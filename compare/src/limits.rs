@@ -1,11 +1,19 @@
 //! The largest things: few, since each is long.
 
-use crate::case::{Call, Case, Verdict};
+use crate::case::{Call, Case, Sizes, Verdict};
 use crate::make::{Shelf, MOST_SLOTS};
 use crate::pack::{index, starts, List};
 use second::random::Random;
 
 const LONGEST: usize = 16_777_216;
+
+/// The sizes of the largest bound: every slot in a block of its own.
+const LARGEST: Sizes = Sizes {
+    u: MOST_SLOTS,
+    block: 1,
+    cut: 0,
+    n: MOST_SLOTS,
+};
 
 /// An index of exactly the greatest length: 127 lists of bits for every slot,
 /// and one list of bits that fills the rest.
@@ -36,7 +44,7 @@ impl Limits {
     pub fn case(&self, number: u64, random: &mut Random) -> Option<Case> {
         let case = match number {
             0..=16 => self.of_the_longest(number, random),
-            17..=35 => of_many(number, random),
+            17..=37 => of_many(number, random),
             _ => return None,
         };
         Some(case.whole_out(random))
@@ -143,7 +151,9 @@ fn of_many(number: u64, random: &mut Random) -> Case {
         32 => long_bits(Call::Look, 0, &[]),
         33 => long_bits(Call::Look, 1, &[(17, 0)]),
         34 => long_bits(Call::Count { name: 0 }, 0, &[]),
-        _ => last_of_many_soiled(),
+        35 => last_of_many_soiled(),
+        36 => Case::new("limit: bound", Call::Bound(LARGEST), Vec::new()).accepted(),
+        _ => every_slot_reserved(),
     }
 }
 
@@ -230,6 +240,19 @@ fn every_slot(block: u32, short: usize, aim: &[Verdict]) -> Case {
     Case::new("limit: write", call, vec![0x5A; length - short])
         .given(slots)
         .refused_by(aim)
+}
+
+/// Every slot there can be, in a room of just the bound.
+fn every_slot_reserved() -> Case {
+    let call = Call::Write {
+        u: LARGEST.u,
+        block: LARGEST.block,
+        cut: LARGEST.cut,
+    };
+    let room = vec![0x5A; LARGEST.most() as usize];
+    Case::new("limit: write", call, room)
+        .given((1..=MOST_SLOTS).collect())
+        .accepted()
 }
 
 /// Every slot there can be, but the last one is the one before it once more.

@@ -2,6 +2,7 @@
 
 use crate::case::{Call, Case, Outcome, Verdict, CALLS, CODES_AT, LOOKS_AT};
 use crate::lie::LIES;
+use crate::measure;
 use crate::read;
 use crate::third::{Met, PLAIN_ZEROS, REFUSED_ZEROS};
 use crate::trace;
@@ -27,8 +28,8 @@ const ENDS: [&str; 7] = [
     "out: more than 37",
 ];
 
-/// 17, by the function that gives it: all but writing may.
-const BY_17: [Option<&str>; 7] = [
+/// 17, by the function that gives it: all that are lent records may.
+const BY_17: [Option<&str>; CALLS.len()] = [
     Some("17 in looking"),
     Some("17 in asking"),
     Some("17 in testing"),
@@ -36,6 +37,7 @@ const BY_17: [Option<&str>; 7] = [
     Some("17 in lending"),
     None,
     Some("17 in closing"),
+    None,
 ];
 
 /// Numbers whose places are counted: 6 to 9 and 17 by list, then 11 and 13 by
@@ -78,7 +80,7 @@ type Order = (&'static str, u32, u32);
 
 /// Orders that must be met. Two faults of an index's lists are one list's, or by
 /// "lists" those of an earlier and a later one.
-const ORDERS: [(&str, &[(u32, u32)]); 6] = [
+const ORDERS: [(&str, &[(u32, u32)]); 7] = [
     (
         "index",
         &[
@@ -163,6 +165,7 @@ const ORDERS: [(&str, &[(u32, u32)]); 6] = [
             (17, 7),
         ],
     ),
+    ("bound", &[(4, 15), (4, 13), (15, 13)]),
 ];
 
 /// Whether a number is that of a fault in a list.
@@ -176,6 +179,7 @@ fn group(call: Call, reported: Verdict, behind: Verdict) -> &'static str {
     let two = of_list(reported.0) && of_list(behind.0) && reported.1 != behind.1;
     match call {
         Call::Write { .. } => "write",
+        Call::Bound(_) => "bound",
         Call::Close { .. } if two && behind.0 == 17 => CLOSED_EARLIER,
         Call::Close { .. } if two && reported.0 == 17 => CLOSED_LATER,
         Call::Close { .. } => "close",
@@ -190,7 +194,7 @@ pub struct Tally {
     pub cases: u64,
     pub different: u64,
     /// Accepted and refused, by function.
-    calls: [[u64; 2]; 7],
+    calls: [[u64; 2]; CALLS.len()],
     numbers: [u64; 18],
     /// As `PLACED`: first, middle, last.
     places: [[u64; 3]; PLACED.len()],
@@ -246,7 +250,7 @@ impl Tally {
         let many = match (number, case.call) {
             (_, Call::Close { .. }) => given,
             (number, _) if of_list(number) => read::k(&case.before.bytes),
-            (11, Call::Ask { .. }) | (13, _) => given,
+            (11, Call::Ask { .. }) | (13, Call::Write { .. }) => given,
             _ => return,
         };
         let Some(row) = PLACED.iter().position(|&placed| placed == number) else {
@@ -386,5 +390,6 @@ fn required() -> impl Iterator<Item = &'static str> {
     let closed = [CLOSED_EARLIER, CLOSED_LATER];
     let spots = SPOTS.into_iter().chain(by_17).chain(closed);
     let costs = [REFUSED_ZEROS, PLAIN_ZEROS].into_iter().chain(ENDS);
-    trace::required().chain(costs).chain(rooms).chain(spots)
+    let others = costs.chain(rooms).chain(spots);
+    trace::required().chain(measure::required()).chain(others)
 }

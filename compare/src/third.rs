@@ -1,7 +1,8 @@
 //! What is known of an answer without either implementation: the refusal that
 //! a case was made for, and for accepted calls a plain reading of the bytes.
 
-use crate::case::{Call, Case, Outcome, CODES_AT, LOOKS_AT};
+use crate::case::{Call, Case, Outcome, Sizes, CODES_AT, LOOKS_AT};
+use crate::measure::{met_by_length, met_by_room};
 use crate::pack::{ending, List};
 use crate::read::{self, Seen};
 use crate::trace::{common, met_by_costs, met_by_count, met_by_list, met_by_names, walk};
@@ -21,6 +22,12 @@ pub fn check(case: &Case, outcome: &Outcome) -> Result<Met, String> {
             return Err(format!("made for {aim:?}, answered {:?}", outcome.verdict));
         }
     }
+    if let Call::Bound(sizes) = case.call {
+        let must = sizes.verdict();
+        if must != outcome.verdict {
+            return Err(format!("must be {must:?}, is {:?}", outcome.verdict));
+        }
+    }
     if outcome.verdict != (0, 0) {
         return refused(case, outcome);
     }
@@ -36,7 +43,21 @@ fn refused(case: &Case, outcome: &Outcome) -> Result<Met, String> {
     if outcome.numbers[told..].iter().any(|&number| number != 0) {
         return Err("refused, and not all else is 0".to_string());
     }
-    Ok(zeros(case, REFUSED_ZEROS))
+    match case.call {
+        Call::Bound(sizes) => Ok(sizes.met(outcome.verdict.0, case.before.out.len())),
+        Call::Write { u, block, cut } if outcome.verdict.0 == 12 => {
+            let room = case.before.bytes.len() as u64;
+            met_by_room(outcome.numbers[1], room, bound_of(case, u, block, cut))
+        }
+        _ => Ok(zeros(case, REFUSED_ZEROS)),
+    }
+}
+
+/// The most bytes that a writing can need.
+fn bound_of(case: &Case, u: u32, block: u32, cut: u32) -> u64 {
+    let above = case.before.given.iter().filter(|&&slot| slot > cut);
+    let n = above.count() as u32;
+    Sizes { u, block, cut, n }.most()
 }
 
 /// Meets the event where the answer has places for the costs of several names.
@@ -74,15 +95,15 @@ fn by_the_bytes(case: &Case, outcome: &Outcome) -> Result<Met, String> {
             same("length", outcome.numbers[1], list.length as u64)?;
             Ok(met_by_list(&list))
         }
-        Call::Write { block, cut, .. } => {
-            let list = List::of(block, cut, &case.before.given);
-            in_front(case, outcome, 0, &list.bytes())?;
-            Ok(met_by_writing(&list))
-        }
+        Call::Write { u, block, cut } => writing(case, outcome, u, block, cut),
         Call::Close { u, block, total } => {
             let ending = ending(u, block, total, &case.before.given);
             in_front(case, outcome, total as usize, &ending)?;
             clean(&outcome.after.bytes[..outcome.numbers[2] as usize])
+        }
+        Call::Bound(sizes) => {
+            same("bytes", outcome.numbers[2], sizes.most())?;
+            Ok(sizes.met(0, case.before.out.len()))
         }
     }
 }
@@ -128,6 +149,16 @@ fn in_front(case: &Case, outcome: &Outcome, at: usize, bytes: &[u8]) -> Result<M
         return Err("other bytes than known".to_string());
     }
     same("length", outcome.numbers[2], end as u64)
+}
+
+/// A writing: the record is another packer's, and no longer than its bound.
+fn writing(case: &Case, outcome: &Outcome, u: u32, block: u32, cut: u32) -> Result<Met, String> {
+    let list = List::of(block, cut, &case.before.given);
+    in_front(case, outcome, 0, &list.bytes())?;
+    let room = case.before.bytes.len() as u64;
+    let most = bound_of(case, u, block, cut);
+    let met = met_by_length(&list, outcome.numbers[2], room, most)?;
+    Ok(&met_by_writing(&list) | &met)
 }
 
 /// What a record that is written is like.

@@ -1,6 +1,6 @@
 //! The harness as a process, its requests and its answers.
 
-use crate::case::{Buffers, Case};
+use crate::case::{Buffers, Case, CALLS};
 use second::random::Random;
 use std::io::{self, BufReader, Read, Write};
 use std::ops::Range;
@@ -211,9 +211,10 @@ pub fn alone(command: &[String], request: &[u8], length: usize) -> io::Result<Op
     Ok(answer)
 }
 
-/// A request to step out of a buffer, which no harness may survive.
+/// A request to step out of a buffer, which no harness may survive. Its number is
+/// the one behind those of the functions.
 pub fn step_out(side: u32, field: u32) -> Vec<u8> {
-    let mut header = vec![7, side, field, 0, 0];
+    let mut header = vec![CALLS.len() as u32, side, field, 0, 0, 0];
     for _ in 0..4 {
         header.extend([0, 6, 0]);
     }

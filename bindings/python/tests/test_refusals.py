@@ -177,7 +177,7 @@ class Words(Case):
             (Refused(10, 0), "10: the question has no name, or more than 16"),
             (Refused(11, 1), "11: there is no list of that name (name at position 1)"),
             (Refused(12, 7), "12: the room is too small (room needed: 7)"),
-            (Refused(13, 0), "13: the slots to be written do not rise strictly within 1..u, or more are to lie above the cut than there are (slot at position 0)"),
+            (Refused(13, 0), "13: the slots to be written do not rise strictly within 1..u, or more are to lie above the cut than there are slots there (position 0)"),
             (Refused(17, 1), "17: a bit beyond the cut is set (list 1)"),
         ]:
             self.assertEqual(str(refused), said)

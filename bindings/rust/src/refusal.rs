@@ -99,7 +99,7 @@ impl Refusal {
             Refusal::BadNames => "the question has no name, or more than 16",
             Refusal::NoList => "there is no list of that name",
             Refusal::NoRoom => "the room is too small",
-            Refusal::NotRising => "the slots to be written do not rise strictly within 1..u, or more are to lie above the cut than there are",
+            Refusal::NotRising => "the slots to be written do not rise strictly within 1..u, or more are to lie above the cut than there are slots there",
             Refusal::BadWay => "the way is neither 0 (plain) nor 1 (by skips)",
             Refusal::BadCut => "the cut is above u",
             Refusal::Outside => "the slot to be tested is not in 1..u",
@@ -165,7 +165,7 @@ impl fmt::Display for Refused {
             }
             Refusal::NoList => write!(f, " (name at position {place})"),
             Refusal::NoRoom => write!(f, " (room needed: {place})"),
-            Refusal::NotRising => write!(f, " (slot at position {place})"),
+            Refusal::NotRising => write!(f, " (position {place})"),
             _ => Ok(()),
         }
     }

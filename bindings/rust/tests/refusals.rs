@@ -88,7 +88,7 @@ fn of_a_record_to_be_measured() {
     assert_eq!((refused.number(), refused.place), (13, 0));
     assert_eq!(
         refused.refusal.reason(),
-        "the slots to be written do not rise strictly within 1..u, or more are to lie above the cut than there are"
+        "the slots to be written do not rise strictly within 1..u, or more are to lie above the cut than there are slots there"
     );
 }
 
@@ -98,7 +98,7 @@ fn of_a_record_to_be_written() {
     expect(record(U, 0, 0, &[]), 4, 0, range);
     let written = write(U, BLOCK, 16, &LIST_1, &mut [0; 23]);
     expect(written, 12, 24, "the room is too small (room needed: 24)");
-    let rising = "the slots to be written do not rise strictly within 1..u, or more are to lie above the cut than there are (slot at position 2)";
+    let rising = "the slots to be written do not rise strictly within 1..u, or more are to lie above the cut than there are slots there (position 2)";
     expect(record(U, BLOCK, 0, &[4, 5, 3]), 13, 2, rising);
     expect(record(U, BLOCK, 33, &[]), 15, 0, "the cut is above u");
 }

@@ -92,7 +92,7 @@ goodSlots u prev (x ∷ xs) = pick (leb x prev) 0 (pick (ltb u x) 0 (1 + goodSlo
 unfoldable pub fault13 : ℕ → List ℕ → Verdict → Verdict
 fault13 u slots rest = let good = goodSlots u 0 slots in pick (ltb good (length slots)) (verdict 13 good) rest
 
--- 13, of n slots that are to lie above a cut, which leaves so many
+-- 13, of n slots that are to lie above a cut, where only so many are left; the place is 0, since no slot is given
 unfoldable pub fault13n : ℕ → ℕ → Verdict → Verdict
 fault13n left n rest = pick (ltb left n) (verdict 13 0) rest
 

@@ -1,4 +1,4 @@
--- [Order 6] How much room to reserve for a record: the most bytes that it can need, told by u, B, the cut and how many slots lie above it.
+-- [Order 6] How much room to reserve for a record: the most bytes that it can need, told by u, B, the cut and how many slots of the list lie above it.
 use Prim.Native.Nat.{ℕ, _+_, _-_, _*_, _/_}
 use mathlib.Core.Path.{_≡_}
 use Rattle.paper.specs.Tail.{blockCount}
@@ -7,8 +7,8 @@ use Rattle.paper.specs.Refusal.{accepted, ifAccepted, fault4, fault13n, 
 use Rattle.paper.specs.declared.Verdict.{Verdict}
 use Rattle.paper.specs.declared.Bound.{Bound}
 
--- The head, the bits, and 8 bytes for each of m blocks. The n - m slots that begin no block have a code of one byte; a code has a second one only where
--- it spans 129 slots or more, and a third only where it spans 16,385, and there are U slots above the cut
+-- The head, the bits, and 8 bytes for each of m blocks. Each of the n - m slots that begin no block has a code of at least one byte. It has a second byte only where the slot lies
+-- 129 or more above the one before it, and a third only where that is 16,385 or more; and all these differences together are at most U
 unfoldable pub mostBytes : ℕ → ℕ → ℕ → ℕ → ℕ
 mostBytes u B cut n =
     let m = blockCount B n in

@@ -11,10 +11,15 @@ use Rattle.paper.specs.declared.Bound.{Bound}
 use Rattle.paper.proofs.Rows.{Row, holds}
 use Rattle.paper.proofs.Rows.Row.{bounding}
 use Rattle.paper.proofs.Readings.{readings}
+use Rattle.laws.proofs.Lists.{In}
 use Rattle.laws.proofs.Equals.{same-true}
+use Rattle.meaning.proofs.Parting.{above}
+use Rattle.promises.proofs.IndexRows.{Counts}
 use Rattle.promises.proofs.ExampleRows as rows
 use Rattle.promises.proofs.ExampleRows.{EachRow}
+use Rattle.promises.proofs.WriteNumbers.{write-table}
 use Rattle.promises.proofs.WriteExamples as writes
+use Rattle.promises.proofs.ReserveNumbers.{counts-above}
 
 -- the three numbers of an answer, in the order in which the tables print them
 abbrev pub numbersOf : Bound → List ℕ
@@ -36,17 +41,19 @@ row-shown row h u B cut n numbers e = bounding-shown u B cut n numbers (rw e at 
 pub readings-shown : EachRow Shown readings
 readings-shown = rows.all-readings Shown row-shown
 
--- what is told is what these slots need: b bytes are enough for them, and no fewer are
+-- what is told for n slots above the cut is what these slots need, of which n lie above it: b bytes are enough for them, and no fewer are
 abbrev pub Reached : ℕ → ℕ → ℕ → List ℕ → ℕ → ℕ → Type 0
 Reached u B cut slots n b =
-    ((most : Bound) → MeetsBound u B cut n most → (most .number ≡ 0) × (most .bytes ≡ b))
+    Counts u (λ x. In x slots × (cut < x)) n
+    × ((most : Bound) → MeetsBound u B cut n most → (most .number ≡ 0) × (most .bytes ≡ b))
     × ((before after : List ℕ) (answer : Written) → MeetsWrite u B cut slots before answer after
     → (b ≤ length before → (answer .number ≡ 0) × (answer .length ≡ b)) × (length before < b → (answer .number ≡ 12) × (answer .place ≡ b)))
 
 -- the record is r, and as long as is told
 pub reached : (u B cut : ℕ) (slots : List ℕ) (n : ℕ) (r : List ℕ) → writeAnswer u B cut slots (length r) .number ≡ 0 → encode B cut slots ≡ r
-    → boundAnswer u B cut n ≡ record { number = 0; place = 0; bytes = length r } → Reached u B cut slots n (length r)
-reached u B cut slots n r ok e told = (
+    → length (above cut slots) ≡ n → boundAnswer u B cut n ≡ record { number = 0; place = 0; bytes = length r } → Reached u B cut slots n (length r)
+reached u B cut slots n r ok e count told = (
+  rw (← count) (counts-above u B cut slots (write-table u B cut slots (length r) .accepts .0 ok .writable)),
   λ most m. let i = m ∙ told in (ap (λ (t : Bound). t .number) i, ap (λ (t : Bound). t .bytes) i),
   λ before after answer m.
       let t = writes.writes u B cut slots r ok e before in (

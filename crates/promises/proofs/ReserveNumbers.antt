@@ -194,51 +194,64 @@ module _ (u B cut n : ℕ) (most : Bound) (m : MeetsBound u B cut n most) where
         let e = bytes-told (ap (λ (v : Verdict). v .number) passes) in
         λ b. let f = bytes-for u B cut n a b in (λ t. f .0 t ∙ sym e, λ t. f .1 (t ∙ e))
 
-  -- SLOTS TO BE WRITTEN, of which n lie above the cut
-  module _ (slots : List ℕ) (w : Writable u B cut slots) (c : Counts u (λ x. In x slots × (cut < x)) n) where
-    within : cut ≤ u
-    within = w .cuts .cut-within
+-- SLOTS TO BE WRITTEN: so many lie above the cut
+module _ (u B cut : ℕ) (slots : List ℕ) (w : Writable u B cut slots) where
+  pub counts-above : Counts u (λ x. In x slots × (cut < x)) (length (above cut slots))
+  counts-above =
+      record {
+        slots = above cut slots;
+        rising = rise-lower u 0 cut (above cut slots) (omega arith) (cut-high cut u 0 slots (w .rising));
+        exactly = λ x. high-in cut slots x;
+        long = refl;
+      }
 
-    counted : n ≡ length (above cut slots)
-    counted =
-        counts-one c
-        (record {
-          slots = above cut slots;
-          rising = rise-lower u 0 cut (above cut slots) (omega arith) (cut-high cut u 0 slots (w .rising));
-          exactly = λ x. high-in cut slots x;
-          long = refl;
-        })
+-- and where these are n
+module _ (u B cut n : ℕ) (slots : List ℕ) (w : Writable u B cut slots) (c : Counts u (λ x. In x slots × (cut < x)) n) where
+  within : cut ≤ u
+  within = w .cuts .cut-within
 
-    -- there are as many slots above it
-    pub bound-accepts : BoundAccepted u B cut n
-    bound-accepts = record { cuts = w .cuts; enough = rw counted (rise-length u cut (above cut slots) within (cut-high cut u 0 slots (w .rising))) }
+  counted : n ≡ length (above cut slots)
+  counted = counts-one c (counts-above u B cut slots w)
 
-    -- and the record has not more bytes than are told
-    pub record-within : length (encode B cut slots) ≤ most .bytes
-    record-within =
-        let e = bytes-told (ap (λ (v : Verdict). v .number) (bound-passes u B cut n bound-accepts)) in
-        let l = encode-within u B cut slots (w .cuts .ranges .block-within .0) within (w .rising) in
-        rw (e, counted) l
+  -- there are at least n slots above it
+  accepts : BoundAccepted u B cut n
+  accepts = record { cuts = w .cuts; enough = rw counted (rise-length u cut (above cut slots) within (cut-high cut u 0 slots (w .rising))) }
 
-    -- so a buffer of so many bytes has room for it
-    pub room-enough : (before : List ℕ) → most .bytes ≤ length before → WriteAccepted u B cut slots (length before)
-    room-enough before l =
-        let k = record-within in
-        record {
-          writable = w;
-          bytes = encode B cut slots;
-          is = written-for u B cut slots (w .cuts .ranges .block-within .0) within (w .rising);
-          fits = omega arith;
-        }
+  -- the record has at most the bytes of the sum
+  most-within : length (encode B cut slots) ≤ mostBytes u B cut n
+  most-within = rw counted (encode-within u B cut slots (w .cuts .ranges .block-within .0) within (w .rising))
+
+  pub sum-within : (b : ℕ) → BoundFor u B cut n b → length (encode B cut slots) ≤ b
+  sum-within b f = rw (bytes-for u B cut n accepts b .0 f) most-within
+
+-- and so at most those that are told
+module _ (u B cut n : ℕ) (most : Bound) (m : MeetsBound u B cut n most) (slots : List ℕ) (w : Writable u B cut slots)
+    (c : Counts u (λ x. In x slots × (cut < x)) n) where
+  pub bound-accepts : BoundAccepted u B cut n
+  bound-accepts = accepts u B cut n slots w c
+
+  pub record-within : length (encode B cut slots) ≤ most .bytes
+  record-within = rw (bytes-told u B cut n most m (ap (λ (v : Verdict). v .number) (bound-passes u B cut n bound-accepts))) (most-within u B cut n slots w c)
+
+  -- a buffer of so many bytes has room for it
+  pub room-enough : (before : List ℕ) → most .bytes ≤ length before → WriteAccepted u B cut slots (length before)
+  room-enough before l =
+      let k = record-within in
+      record {
+        writable = w;
+        bytes = encode B cut slots;
+        is = written-for u B cut slots (w .cuts .ranges .block-within .0) (w .cuts .cut-within) (w .rising);
+        fits = omega arith;
+      }
 
 -- and no writing is refused with 12 where the buffer has as many bytes as are told
 pub never-twelve : (u B cut : ℕ) (slots before : List ℕ) (answer : Written) (after : List ℕ) → MeetsWrite u B cut slots before answer after
-    → (n : ℕ) → Counts u (λ x. In x slots × (cut < x)) n → (most : Bound) → MeetsBound u B cut n most → most .bytes ≤ length before
-    → ¬ (answer .number ≡ 12)
+    → (n : ℕ) → (Writable u B cut slots → Counts u (λ x. In x slots × (cut < x)) n) → (most : Bound) → MeetsBound u B cut n most
+    → most .bytes ≤ length before → ¬ (answer .number ≡ 12)
 never-twelve u B cut slots before answer after m n c most b l z =
     let e = sym (ap (λ (w : Written). w .number) (m .answers)) ∙ z in
     let t = write-table u B cut slots (length before) .refuses 12 (writeAnswer u B cut slots (length before) .place) .0 (e, refl, λ k. omega arith) in
     let s = twelve-short u B cut slots (length before) 12 _ t refl in
-    let k = record-within u B cut n most b slots (s .writable) c in
+    let k = record-within u B cut n most b slots (s .writable) (c (s .writable)) in
     let h = s .shorter in
     absurd (omega arith)

@@ -6,7 +6,7 @@ use Rattle.laws.proofs.Rounding.{RoundsUp}
 use Rattle.promises.proofs.IndexRows.{Outside}
 use Rattle.promises.proofs.WriteRows.{Ranges, Cuts}
 
--- d goes p times into U
+-- d goes p whole times into U
 abbrev pub GoesInto : ℕ → ℕ → ℕ → Type 0
 GoesInto d U p = (p * d ≤ U) × (U < p * d + d)
 
@@ -34,10 +34,10 @@ pub data BoundRefused (u B cut n : ℕ) : ℕ → ℕ → Type 0 where
   B-range : Outside 1 128 B → BoundRefused u B cut n 4 0
   -- 15: the cut is above u
   cut-above : Ranges u B → u < cut → BoundRefused u B cut n 15 0
-  -- 13: there are fewer slots above the cut
+  -- 13: fewer than n slots lie above the cut
   too-many : Cuts u B cut → u < cut + n → BoundRefused u B cut n 13 0
 
--- NO ROW: and there are as many slots above the cut
+-- NO ROW: and at least n slots lie above the cut
 pub record BoundAccepted (u B cut n : ℕ) : Type 0 where
   pub cuts : Cuts u B cut
   pub enough : cut + n ≤ u

@@ -1,7 +1,7 @@
 -- WHAT IS PROMISED of telling how large a record can be, before its slots are written [order 6]: its refusals, the number of bytes, that no record needs more, and that some need
 -- as many. Every statement has a name and its meaning in plain words; the line behind it is its proof, which cites other files. The rows of the table, and the
 -- number in the order's own words, are in ReserveRows; what a reader needs of writing is in Writing and WriteRows. `Counts u P n`: n slots in 1..u have the
--- property P. `In x xs`: x is one of the list xs. `EachRow P rows`: P holds of each row of a table.
+-- property P. `In x xs`: x is one of the list xs. `EachRow P rows`: P holds of each row of a table. `Shown` and `Reached` are in ReserveExamples.
 use Prim.Native.Nat.{ℕ, _≤_, _<_}
 use mathlib.Core.Path.{_≡_, refl, sym, ap, _∙_}
 use mathlib.Core.Logic.{_↔_}
@@ -29,7 +29,8 @@ use Rattle.promises.proofs.ReserveExamples.{Shown, Reached}
 abbrev pub OfBounds : (ℕ → ℕ → ℕ → ℕ → Bound → Type 0) → Type 0
 OfBounds P = (u B cut n : ℕ) (most : Bound) → MeetsBound u B cut n most → P u B cut n most
 
--- of every number of slots above the cut of a writing, and of any answer that keeps the promise of telling the bound for it
+-- of every n that is the number of a writing's slots above the cut (an accepted one has such a number: HeadCount in Writing), and of any answer that keeps the promise of telling
+-- the bound for it
 abbrev pub OfBoundsFor : ℕ → ℕ → ℕ → List ℕ → (Bound → Type 0) → Type 0
 OfBoundsFor u B cut slots P = (n : ℕ) → Counts u (λ x. In x slots × (cut < x)) n → (most : Bound) → MeetsBound u B cut n most → P most
 
@@ -60,6 +61,17 @@ bound-tells u B cut n most m a = (
 
 -- NO RECORD NEEDS MORE
 
+-- Every writing that is accepted has a length of at most the order's sum, for its u, B and cut and for how many of its slots lie above the cut.
+abbrev pub BoundSum : Type 0
+BoundSum =
+    OfAccepted λ u B cut slots before answer after.
+    (n : ℕ) → Counts u (λ x. In x slots × (cut < x)) n → (b : ℕ) → BoundFor u B cut n b → answer .length ≤ b
+
+pub bound-sum : BoundSum
+bound-sum u B cut slots before answer after m ok n c b f =
+    let w = writes.passed u B cut slots before answer after m ok .writable in
+    rw (writes.length-is u B cut slots before answer after m ok) (numbers.sum-within u B cut n slots w c b f)
+
 -- Every writing that is accepted has a length of at most the bytes told for its u, B and cut and for how many of its slots lie above the cut; and for these
 -- the bound is never refused.
 abbrev pub BoundHolds : Type 0
@@ -72,10 +84,13 @@ bound-holds u B cut slots before answer after m ok n c most b =
       rw (writes.length-is u B cut slots before answer after m ok) (numbers.record-within u B cut n most b slots w c),
     )
 
--- So no writing into a buffer of at least so many bytes is refused with 12, whatever the slots.
+-- So no writing into a buffer of at least so many bytes is refused with 12, whatever the slots: only where rows 4, 15 and 13 do not refuse them need n be how many of
+-- them lie above the cut.
 abbrev pub BoundNeverTwelve : Type 0
 BoundNeverTwelve =
-    OfWritings λ u B cut slots before answer after. OfBoundsFor u B cut slots λ most. most .bytes ≤ length before → ¬ (answer .number ≡ 12)
+    OfWritings λ u B cut slots before answer after.
+    (n : ℕ) → (Writable u B cut slots → Counts u (λ x. In x slots × (cut < x)) n) → (most : Bound) → MeetsBound u B cut n most
+    → most .bytes ≤ length before → ¬ (answer .number ≡ 12)
 
 pub bound-never-twelve : BoundNeverTwelve
 bound-never-twelve = numbers.never-twelve
@@ -90,8 +105,8 @@ pub bound-suffices : BoundSuffices
 bound-suffices u B cut slots before answer after m w n c most b l =
     writes.tells-number u B cut slots before answer after m (numbers.room-enough u B cut n most b slots w c before l)
 
--- SOME NEED AS MANY. `Reached u B cut slots n b`: b bytes are told for n slots above the cut, and every writing of these slots into a buffer of at least so many bytes
--- is accepted with the length b, while every shorter buffer is refused with 12.
+-- SOME NEED AS MANY. `Reached u B cut slots n b`: n of these slots lie above the cut, b bytes are told for that, and every writing of the slots into a buffer of at least so
+-- many bytes is accepted with the length b, while every shorter buffer is refused with 12.
 
 -- Slots 1 and 130, whose one code has two bytes; and both lists of the paper's index.
 abbrev pub BoundReached : Type 0
@@ -100,9 +115,9 @@ BoundReached = Reached 130 128 0 (1 ∷ 130 ∷ []) 2 22 × Reached 32 4 0 slots
 pub bound-reached : BoundReached
 unfolding opened
 bound-reached = (
-  examples.reached 130 128 0 (1 ∷ 130 ∷ []) 2 (hex 22 0x00000000_02000000_02000000_01000000_00000000_80_01) refl refl refl,
-  examples.reached 32 4 0 slots0 15 list0 refl refl refl,
-  examples.reached 32 4 16 slots1 3 list1 refl refl refl,
+  examples.reached 130 128 0 (1 ∷ 130 ∷ []) 2 (hex 22 0x00000000_02000000_02000000_01000000_00000000_80_01) refl refl refl refl,
+  examples.reached 32 4 0 slots0 15 list0 refl refl refl refl,
+  examples.reached 32 4 16 slots1 3 list1 refl refl refl refl,
 )
 
 -- REFUSAL

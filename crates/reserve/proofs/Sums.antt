@@ -14,7 +14,7 @@ pub most-is : (u B cut n bits m : ℕ) → bits ≡ ceilDiv cut 8 → m ≡ ceil
 unfolding mostBytes
 most-is u B cut n bits m e f = rw (e, f)
 
--- u and B lie in their ranges, the cut within u, and no more slots above it than there are
+-- u is not too large, B is not 0, the cut lies within u, and no more slots are to lie above it than there are
 pub record Roomy (u B cut n : ℕ) : Type 0 where
   pub small : u ≤ 1048576
   pub some : 0 < B
