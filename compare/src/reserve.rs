@@ -155,6 +155,22 @@ struct Plan {
     slots: Vec<u32>,
 }
 
+impl Plan {
+    fn list(&self) -> List {
+        List::of(self.block, self.cut, &self.slots)
+    }
+
+    /// What is asked before the list is written.
+    fn sizes(&self) -> Sizes {
+        Sizes {
+            u: self.u,
+            block: self.block,
+            cut: self.cut,
+            n: self.list().tail,
+        }
+    }
+}
+
 /// A bound asked, the record written into a room of just so many bytes, and into
 /// one of a byte less.
 pub fn reserved(random: &mut Random) -> Vec<Case> {
@@ -163,16 +179,11 @@ pub fn reserved(random: &mut Random) -> Vec<Case> {
         1 => stretched(random),
         _ => reaching(random),
     };
-    let list = List::of(plan.block, plan.cut, &plan.slots);
-    let sizes = Sizes {
-        u: plan.u,
-        block: plan.block,
-        cut: plan.cut,
-        n: list.tail,
-    };
-    let first = asked("room reserved: bound", sizes).out(random).accepted();
+    let first = asked("room reserved: bound", plan.sizes())
+        .out(random)
+        .accepted();
     let bytes = first.outcome().numbers[2] as usize;
-    let length = list.bytes().len();
+    let length = plan.list().bytes().len();
     let fits = written(random, &plan, bytes).accepted();
     let less = written(random, &plan, bytes.saturating_sub(1));
     let less = if length < bytes {
@@ -289,14 +300,8 @@ mod tests {
     fn lists_that_reach_the_bound() {
         for number in 0..2_000 {
             let plan = reaching(&mut stream(1, number));
-            let list = List::of(plan.block, plan.cut, &plan.slots);
-            let sizes = Sizes {
-                u: plan.u,
-                block: plan.block,
-                cut: plan.cut,
-                n: list.tail,
-            };
-            assert_eq!(list.bytes().len() as u64, sizes.most(), "{number}");
+            let length = plan.list().bytes().len() as u64;
+            assert_eq!(length, plan.sizes().most(), "{number}");
         }
     }
 
