@@ -2,7 +2,6 @@
 use Prim.Native.Nat.{ℕ, _+_, _-_, _/_, _≤_, _<_}
 use mathlib.Core.Path.{_≡_, refl, sym, ap, _∙_}
 use mathlib.Core.Logic.{_↔_}
-use mathlib.Core.Logic._⊎_.{inl, inr}
 use mathlib.Core.List.{List}
 use native.Mathlib.Decide.{decLe}
 use native.Mathlib.Omega.{arith}
@@ -22,13 +21,12 @@ use Rattle.meaning.proofs.Rising.{rise-lower, rise-length}
 use Rattle.meaning.proofs.Parting.{above, cut-high}
 use Rattle.promises.proofs.IndexRows.{ByTheTable, Counts}
 use Rattle.promises.proofs.IndexFrame.{four-u, four-B, four-passes}
-use Rattle.promises.proofs.IndexJudged.{inside-or}
 use Rattle.promises.proofs.IndexNumbers.{by-the-table, Either}
 use Rattle.promises.proofs.IndexNumbers.Either.{one-refuses, all-accept}
 use Rattle.promises.proofs.QuestionNumbers.{counts-one}
 use Rattle.promises.proofs.WriteRows.{Ranges, Cuts, Writable, WriteAccepted}
 use Rattle.promises.proofs.WriteBytes.{high-in, written-for}
-use Rattle.promises.proofs.WriteNumbers.{write-table, twelve-short}
+use Rattle.promises.proofs.WriteNumbers.{sizes-or, write-table, twelve-short}
 use Rattle.promises.proofs.ReserveRows.{GoesInto, BoundFor, BoundRefused, BoundAccepted}
 use Rattle.promises.proofs.ReserveRows.BoundRefused.{u-range, B-range, cut-above, too-many}
 use Rattle.promises.proofs.ReserveGaps.{encode-within}
@@ -79,23 +77,8 @@ module _ (u B cut n : ℕ) where
         | no g ↦ one-refuses 13 0 (too-many c (omega arith))
       ]
 
-  by-cut : Ranges u B → Judged
-  by-cut g =
-      elim (decLe cut u) [
-        | yes l ↦ by-count (record { ranges = g; cut-within = l })
-        | no k ↦ one-refuses 15 0 (cut-above g (omega arith))
-      ]
-
   bound-either : Judged
-  bound-either =
-      elim (inside-or 1 1048576 u) [
-        | inr o ↦ one-refuses 4 0 (u-range o)
-        | inl i ↦
-            elim (inside-or 1 128 B) [
-              | inr o ↦ one-refuses 4 0 (B-range o)
-              | inl j ↦ by-cut (record { slots-within = i; block-within = j })
-            ]
-      ]
+  bound-either = sizes-or u B cut u-range B-range cut-above by-count
 
   -- SO IT GOES by the table
   pub bound-table : ByTheTable (boundAnswer u B cut n .number) (boundAnswer u B cut n .place) (BoundRefused u B cut n) (BoundAccepted u B cut n)

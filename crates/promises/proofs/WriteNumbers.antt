@@ -16,7 +16,7 @@ use Rattle.laws.proofs.Lists.{same-either}
 use Rattle.laws.proofs.Links.{fifteen-above, fifteen, thirteen-bad, thirteen, twelve-small, twelve}
 use Rattle.meaning.proofs.Rising.{Ascends}
 use Rattle.promises.proofs.RecordRows.{AboveAll}
-use Rattle.promises.proofs.IndexRows.{ByTheTable}
+use Rattle.promises.proofs.IndexRows.{ByTheTable, Outside}
 use Rattle.promises.proofs.IndexFrame.{four-u, four-B, four-passes}
 use Rattle.promises.proofs.IndexJudged.{inside-or}
 use Rattle.promises.proofs.IndexNumbers.{by-the-table, Either}
@@ -24,6 +24,27 @@ use Rattle.promises.proofs.IndexNumbers.Either.{one-refuses, all-accept
 use Rattle.promises.proofs.WriteRows.{Ranges, Cuts, Writable, WriteRefused, WriteAccepted}
 use Rattle.promises.proofs.WriteRows.WriteRefused.{u-range, B-range, cut-above, not-above, beyond, no-room}
 use Rattle.promises.proofs.WriteBytes.{written-for, for-written}
+
+-- 4 and 15, by which writing begins and so does telling the bound: one of them refuses u, B or the cut, or what follows decides
+module _ {Refuses : ℕ → ℕ → Type 0} {Accepts : Type 0} (u B cut : ℕ) (u-bad : Outside 1 1048576 u → Refuses 4 0) (B-bad : Outside 1 128 B → Refuses 4 0)
+    (cut-bad : Ranges u B → u < cut → Refuses 15 0) (on : Cuts u B cut → Either Refuses Accepts) where
+  cut-or : Ranges u B → Either Refuses Accepts
+  cut-or g =
+      elim (decLe cut u) [
+        | yes l ↦ on (record { ranges = g; cut-within = l })
+        | no n ↦ one-refuses 15 0 (cut-bad g (omega arith))
+      ]
+
+  pub sizes-or : Either Refuses Accepts
+  sizes-or =
+      elim (inside-or 1 1048576 u) [
+        | inr o ↦ one-refuses 4 0 (u-bad o)
+        | inl i ↦
+            elim (inside-or 1 128 B) [
+              | inr o ↦ one-refuses 4 0 (B-bad o)
+              | inl j ↦ cut-or (record { slots-within = i; block-within = j })
+            ]
+      ]
 
 -- 13, of the slots
 module _ (u : ℕ) where
@@ -185,23 +206,8 @@ module _ (u B cut : ℕ) (slots : List ℕ) (room : ℕ) where
             ]
       ]
 
-  by-cut : Ranges u B → Judged
-  by-cut g =
-      elim (decLe cut u) [
-        | yes l ↦ by-slots (record { ranges = g; cut-within = l })
-        | no n ↦ one-refuses 15 0 (cut-above g (omega arith))
-      ]
-
   write-either : Judged
-  write-either =
-      elim (inside-or 1 1048576 u) [
-        | inr o ↦ one-refuses 4 0 (u-range o)
-        | inl i ↦
-            elim (inside-or 1 128 B) [
-              | inr o ↦ one-refuses 4 0 (B-range o)
-              | inl j ↦ by-cut (record { slots-within = i; block-within = j })
-            ]
-      ]
+  write-either = sizes-or u B cut u-range B-range cut-above by-slots
 
   -- SO WRITING goes by the table
   pub write-table : ByTheTable (writeAnswer u B cut slots room .number) (writeAnswer u B cut slots room .place) (WriteRefused u B cut slots room)
