@@ -29,6 +29,7 @@ u32 slots_lend(const u8 *index, u64 size, u32 name, u64 *out, u64 outs);
 u32 slots_write(u32 u, u32 block, u32 cut, const u32 *slots, u64 many, u8 *room, u64 size, u64 *out, u64 outs);
 u32 slots_close(u8 *room, u64 size, u32 u, u32 block, u32 total, const u32 *starts, u64 many, u64 *out, u64 outs);
 u32 slots_bound(u32 u, u32 block, u32 cut, u32 n, u64 *out, u64 outs);
+u32 slots_next(const u8 *index, u64 size, u32 name, u32 slot, u64 *out, u64 outs);
 
 enum { NOTHING = 0, READ_WRITE = 3, PRIVATE_FRESH = 0x22 };
 enum { STOPPED = 3, NO_MEMORY = 4, BAD_REQUEST = 5 };
@@ -147,7 +148,8 @@ static u32 call(const u32 *h) {
     case 5: return slots_write(x, y, z, given, many, bytes, size, answer, answers);
     case 6: return slots_close(bytes, size, x, y, z, given, many, answer, answers);
     case 7: return slots_bound(x, y, z, w, answer, answers);
-    case 8: return step_out(h[1], x);
+    case 8: return slots_next(bytes, size, x, y, answer, answers);
+    case 9: return step_out(h[1], x);
     }
     _exit(BAD_REQUEST);
     return 0;

@@ -1,4 +1,4 @@
-/* slots.h: an index of packed lists of slots: looked at, asked, tested, counted, lent from, measured, written and closed.
+/* slots.h: an index of packed lists of slots: looked at, asked, tested, stepped through, counted, lent from, measured, written and closed.
  *
  * Link with build/libslots.a or build/libslots.so, which ./build-lib makes. Both are for Linux on x86-64; of the C library they need memset alone.
  * (On another machine build/native has the same two for trying things out.) This header is C99 and C++98, or newer. docs/FORMAT.md has the
@@ -62,7 +62,7 @@ enum slots_refusal {
     SLOTS_NOT_RISING = 13, /* the slots to be written do not rise strictly within 1..u, or more are to lie above the cut than there are slots there; place: the position of the first bad one, 0 for slots_bound */
     SLOTS_BAD_WAY = 14,    /* the way is neither 0 (plain) nor 1 (by skips) */
     SLOTS_BAD_CUT = 15,    /* the cut is above u */
-    SLOTS_OUTSIDE = 16,    /* the slot to be tested is not in 1..u */
+    SLOTS_OUTSIDE = 16,    /* the slot asked about is not in 1..u */
     SLOTS_BAD_BITS = 17    /* a bit beyond the cut is set; place: the list */
 };
 
@@ -110,6 +110,15 @@ uint32_t slots_ask(const uint8_t *index, size_t index_len, uint32_t way, const u
  * Refuses, in this order: the index, 11, 16. Accepted: `yes` is 1 where the list holds the slot, and 0 where it does not. */
 enum slots_test_field { SLOTS_TEST_NUMBER, SLOTS_TEST_PLACE, SLOTS_TEST_YES, SLOTS_TEST_FIELDS };
 uint32_t slots_test(const uint8_t *index, size_t index_len, uint32_t name, uint32_t slot, uint64_t *out, size_t out_len);
+
+/* slots_next: which slot of a list comes next, from a slot on.
+ *
+ * Refuses, in this order: the index, 11, 16. Accepted: SLOTS_NEXT_SLOT is the least slot of the list that is not below `slot`, so `slot` itself where
+ * the list holds it; it is 0, which is no slot, where the list holds none from there on. A refusal leaves 0 there too, and does not say "none".
+ * A list is stepped through by asking from 1, and then each time from one above the slot told, until that is 0 or u. (Every call looks at the whole
+ * index. All slots of a list in one call: slots_ask, with this name alone.) */
+enum slots_next_field { SLOTS_NEXT_NUMBER, SLOTS_NEXT_PLACE, SLOTS_NEXT_SLOT, SLOTS_NEXT_FIELDS };
+uint32_t slots_next(const uint8_t *index, size_t index_len, uint32_t name, uint32_t slot, uint64_t *out, size_t out_len);
 
 /* slots_count: how many slots a list holds.
  *
@@ -179,7 +188,7 @@ static inline const char *slots_reason(uint32_t number) {
         "the slots to be written do not rise strictly within 1..u, or more are to lie above the cut than there are slots there",
         "the way is neither 0 (plain) nor 1 (by skips)",
         "the cut is above u",
-        "the slot to be tested is not in 1..u",
+        "the slot asked about is not in 1..u",
         "a bit beyond the cut is set",
     };
     return number < sizeof reasons / sizeof reasons[0] ? reasons[number] : "a number that this header does not know";

@@ -1,5 +1,5 @@
 /* Calls every function of slots.h as a program in C does: the example index of docs/FORMAT.md is measured, written, closed, looked at, asked, tested,
- * counted and lent from, and some calls are refused. The answers expected are those that docs/FORMAT.md tells, or can be read off it.
+ * stepped through, counted and lent from, and some calls are refused. The answers expected are those that docs/FORMAT.md tells, or can be read off it.
  * The number of checks is printed at the end; the status is 1 where one failed. */
 #include <stdio.h>
 #include <string.h>
@@ -147,6 +147,73 @@ static void refusals(uint8_t *index, size_t size) {
     index[54] = 0x01;
 }
 
+/* What slots_next tells, all fields of it, also on refusal. */
+static void next_is(const uint8_t *index, size_t size, uint32_t name, uint32_t slot, uint32_t number, uint64_t place, uint64_t next) {
+    uint64_t out[SLOTS_NEXT_FIELDS + 1] = {99, 99, 99, 99};
+    IS(slots_next(index, size, name, slot, out, SLOTS_NEXT_FIELDS), number);
+    IS(out[SLOTS_NEXT_NUMBER], number);
+    IS(out[SLOTS_NEXT_PLACE], place);
+    IS(out[SLOTS_NEXT_SLOT], next);
+    IS(out[SLOTS_NEXT_FIELDS], 99);
+}
+
+/* The blocks of list 0 are 1 4 5 6, 8 12 15 16, 18 20 25 26 and 27 28 30. List 1 has bits for 3 5 12 16, and the block 26 30 31. */
+static void nexts(uint8_t *index, size_t size) {
+    next_is(index, size, 0, 5, SLOTS_ACCEPTED, 0, 5); /* the slot itself counts */
+    next_is(index, size, 0, 7, SLOTS_ACCEPTED, 0, 8); /* the first of the next block */
+    next_is(index, size, 0, 9, SLOTS_ACCEPTED, 0, 12);
+    next_is(index, size, 0, 31, SLOTS_ACCEPTED, 0, 0);
+    next_is(index, size, 1, 6, SLOTS_ACCEPTED, 0, 12);
+    next_is(index, size, 1, 16, SLOTS_ACCEPTED, 0, 16);
+    next_is(index, size, 1, 17, SLOTS_ACCEPTED, 0, 26); /* behind the bits comes the tail */
+    next_is(index, size, 1, 32, SLOTS_ACCEPTED, 0, 0);
+    index[68] = 0x00; /* the bits of 9 to 16: 12 and 16 are in list 1 no more */
+    next_is(index, size, 1, 6, SLOTS_ACCEPTED, 0, 26);
+    index[68] = 0x11;
+}
+
+static void nexts_refused(uint8_t *index, size_t size) {
+    next_is(index, size, 0, 0, SLOTS_OUTSIDE, 0, 0);
+    next_is(index, size, 1, 33, SLOTS_OUTSIDE, 0, 0);
+    next_is(index, size, 1, UINT32_MAX, SLOTS_OUTSIDE, 0, 0);
+    next_is(index, size, 2, 5, SLOTS_NO_LIST, 0, 0);
+    next_is(index, size, 2, 0, SLOTS_NO_LIST, 0, 0);
+    next_is(index, size, UINT32_MAX, 33, SLOTS_NO_LIST, 0, 0);
+    next_is(index, size - 1, 2, 0, SLOTS_BAD_TAG, 0, 0);
+    index[54] = 0x81; /* the last code of list 0 then asks for one byte more than there is */
+    next_is(index, size, 0, 5, SLOTS_BAD_CODE, 0, 0);
+    next_is(index, size, 2, 0, SLOTS_BAD_CODE, 0, 0);
+    index[54] = 0x01;
+    index[78] = 0x80; /* the last code of list 1, likewise: the place is the list, whichever is asked */
+    next_is(index, size, 0, 5, SLOTS_BAD_CODE, 1, 0);
+    index[78] = 0x00;
+}
+
+/* Steps through a list of the example: from 1 on, and then from one above the slot told, until there is none. (None of them holds 32, the last slot of
+ * the rack; from one above that, there would be a refusal.) */
+static void stepped(const uint8_t *index, size_t size, uint32_t name, const uint32_t *slots, size_t many) {
+    uint64_t out[SLOTS_NEXT_FIELDS];
+    uint32_t from = 1;
+    for (size_t i = 0; i <= many; i++) {
+        IS(slots_next(index, size, name, from, out, SLOTS_NEXT_FIELDS), SLOTS_ACCEPTED);
+        IS(out[SLOTS_NEXT_SLOT], i < many ? slots[i] : 0);
+        from = (uint32_t)out[SLOTS_NEXT_SLOT] + 1;
+    }
+}
+
+/* `out` takes what fits of a next slot, and what stands behind stays. */
+static void shorter_next(const uint8_t *index, size_t size, size_t length) {
+    const uint64_t whole[SLOTS_NEXT_FIELDS] = {0, 0, 12};
+    const uint64_t refused[SLOTS_NEXT_FIELDS] = {16, 0, 0};
+    uint64_t out[SLOTS_NEXT_FIELDS + 2];
+    memset(out, 0xAA, sizeof out);
+    IS(slots_next(index, size, 0, 9, out, length), SLOTS_ACCEPTED);
+    for (size_t i = 0; i < SLOTS_NEXT_FIELDS + 2; i++) IS(out[i], i < length && i < SLOTS_NEXT_FIELDS ? whole[i] : 0xAAAAAAAAAAAAAAAA);
+    memset(out, 0xAA, sizeof out);
+    IS(slots_next(index, size, 0, 33, out, length), SLOTS_OUTSIDE);
+    for (size_t i = 0; i < SLOTS_NEXT_FIELDS + 2; i++) IS(out[i], i < length && i < SLOTS_NEXT_FIELDS ? refused[i] : 0xAAAAAAAAAAAAAAAA);
+}
+
 /* List 1 cut at 15, not at 16: the lowest bit of its bits, 28 11 at bytes 67 and 68, was slot 16 and is now beyond the cut. Every call that judges
  * the record refuses it, with list 1 as the place. With that bit cleared the index is sound, and the list has one slot less. */
 static void bits_beyond_the_cut(uint8_t *index, size_t size) {
@@ -161,6 +228,7 @@ static void bits_beyond_the_cut(uint8_t *index, size_t size) {
     for (int i = 0; i < 7; i++) IS(slots[i], 9);
     IS(slots_test(index, size, 0, 1, out, SLOTS_TEST_FIELDS), SLOTS_BAD_BITS);
     IS(out[SLOTS_TEST_PLACE], 1);
+    next_is(index, size, 0, 1, SLOTS_BAD_BITS, 1, 0);
     IS(slots_count(index, size, 0, out, SLOTS_COUNT_FIELDS), SLOTS_BAD_BITS);
     IS(out[SLOTS_COUNT_PLACE], 1);
     IS(slots_lend(index, size, 0, out, SLOTS_LEND_FIELDS), 0);
@@ -273,6 +341,8 @@ static void edges(const uint8_t *index, size_t size) {
     IS(slots_ask(NULL, 0, 0, NULL, 0, NULL, 0, NULL, 0), SLOTS_BAD_SIZE);
     IS(slots_ask(index, size, 0, NULL, 0, NULL, 0, NULL, 0), SLOTS_BAD_NAMES);
     IS(slots_test(NULL, 0, 0, 1, NULL, 0), SLOTS_BAD_SIZE);
+    IS(slots_next(NULL, 0, 0, 1, NULL, 0), SLOTS_BAD_SIZE);
+    IS(slots_next(index, size, 0, 1, NULL, 0), SLOTS_ACCEPTED);
     IS(slots_count(NULL, 0, 0, NULL, 0), SLOTS_BAD_SIZE);
     IS(slots_lend(NULL, 0, 0, NULL, 0), 0);
     IS(slots_bound(32, 4, 0, 0, NULL, 0), SLOTS_ACCEPTED);
@@ -301,6 +371,11 @@ int main(void) {
     sixteen_names(room, size);
     refusals_cost_nothing(room, size);
     refusals(room, size);
+    nexts(room, size);
+    nexts_refused(room, size);
+    stepped(room, size, 0, list_0, 15);
+    stepped(room, size, 1, list_1, 7);
+    for (size_t length = 0; length <= SLOTS_NEXT_FIELDS + 2; length++) shorter_next(room, size, length);
     bits_beyond_the_cut(room, size);
     edges(room, size);
     shorter_out(room, size, 0);
@@ -314,6 +389,7 @@ int main(void) {
     reserve_then_write();
     for (size_t length = 0; length <= SLOTS_BOUND_FIELDS + 1; length++) shorter_bound(length);
     IS(strcmp(slots_reason(SLOTS_BAD_CUT), "the cut is above u"), 0);
+    IS(strcmp(slots_reason(SLOTS_OUTSIDE), "the slot asked about is not in 1..u"), 0);
     IS(strcmp(slots_reason(SLOTS_BAD_BITS), "a bit beyond the cut is set"), 0);
     IS(strcmp(slots_reason(SLOTS_BAD_BITS + 1), "a number that this header does not know"), 0);
     printf("%d checks, %d failed\n", checks, failures);

@@ -1,4 +1,4 @@
-"""The command line: look, show, ask, pack and draw, run as `python3 bindings/python COMMAND ..`.
+"""The command line: look, show, ask, next, pack and draw, run as `python3 bindings/python COMMAND ..`.
 
 What a command finds goes to standard output. A refusal of the library is found too: it is printed as `refused: ..`, with status 1. For 17 a second
 line tells the byte.
@@ -41,6 +41,13 @@ def ask(given: argparse.Namespace) -> int:
         answer = slots.ask(index, given.way, given.names)
     costs = _costs(index, given.names, answer) if given.way is slots.Way.BY_SKIPS else []  # plainly nothing is sought, and no list has a cost
     _print([f"{_many(len(answer.slots), 'slot')}, {_cost(answer.looks, answer.codes)}", *costs, *map(str, answer.slots)])
+    return 0
+
+
+def next(given: argparse.Namespace) -> int:
+    with _index(given.file) as index:
+        slot = slots.next(index, given.name, given.slot)
+    print("none" if slot is None else slot)
     return 0
 
 
@@ -141,8 +148,17 @@ def _way(text: str) -> slots.Way:
 
 
 def _name(text: str) -> int:
+    return _number("list", text)
+
+
+def _slot(text: str) -> int:
+    return _number("slot", text)
+
+
+def _number(of: str, text: str) -> int:
+    """Any number that the library takes; whether there is such a list or slot is for the library to say."""
     if not re.fullmatch("0*[0-9]{1,10}", text) or int(text[-10:]) >= 2**32:
-        raise argparse.ArgumentTypeError(f"'{packing.short(text)}' is not the number of a list")
+        raise argparse.ArgumentTypeError(f"'{packing.short(text)}' is not the number of a {of}")
     return int(text[-10:])  # what stands before is zeros
 
 
@@ -180,6 +196,16 @@ example:
         FILE,
         ("way", {"metavar": "WAY", "type": _way, "help": "plain: each list is read along; skips: by leaps over blocks"}),
         ("names", {"metavar": "NAME", "type": _name, "nargs": "*", "default": [], "help": "a list"})]),
+    (next, "tell the next slot of a list, from a slot on", """\
+Prints the least slot of the list that is not below SLOT, which itself counts, or
+`none` where the list holds no slot from there on. The name is the number of the
+list, counted from 0.
+
+example:
+  python3 bindings/python next crates/rack/data/rack.idx 0 7""", [
+        FILE,
+        ("name", {"metavar": "NAME", "type": _name, "help": "a list"}),
+        ("slot", {"metavar": "SLOT", "type": _slot, "help": "the slot to begin at"})]),
     (pack, "pack lists of slots from a text into an index", f"""\
 Each list is cut where its record becomes smallest. The index is written only where
 all went well; then what it consists of is printed as by `show`. The text:

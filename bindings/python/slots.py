@@ -1,8 +1,9 @@
-"""The library of packed lists of slots, for Python: look, ask, test, count, lend, bound, write and close.
+"""The library of packed lists of slots, for Python: look, ask, test, next, count, lend, bound, write and close.
 
 A rack has slots numbered 1 to u. A list is a set of slots, and an index packs up to 4,096 lists, numbered from 0, into one run of bytes
 (docs/FORMAT.md has the format). Each function here hands its arguments to the C function of the same name (include/slots.h), which is proved: an answer is
-right, or the call is refused. (`record` and `index_of` are `write` and `close` with a buffer of their own.)
+right, or the call is refused. (`record` and `index_of` are `write` and `close` with a buffer of their own. `next` hides Python's own where it is
+imported by its name alone: call it as `slots.next`.)
 
     import slots
 
@@ -46,7 +47,7 @@ from typing import TYPE_CHECKING, Callable, Dict, Iterable, Iterator, List, Opti
 __all__ = [
     "Answer", "Bound", "Bytes", "Counted", "Lent", "NoLibrary", "Refusal", "Refused", "Room", "Tested", "Way", "Written",
     "MOST_BLOCK", "MOST_BYTES", "MOST_LISTS", "MOST_NAMES", "MOST_RECORD", "MOST_SLOTS",
-    "ask", "bound", "close", "count", "index_of", "lend", "look", "record", "test", "write",
+    "ask", "bound", "close", "count", "index_of", "lend", "look", "next", "record", "test", "write",
 ]
 
 if TYPE_CHECKING:
@@ -116,7 +117,7 @@ _REASONS: Dict[int, str] = {
     Refusal.NOT_RISING: "the slots to be written do not rise strictly within 1..u, or more are to lie above the cut than there are slots there",
     Refusal.BAD_WAY: "the way is neither 0 (plain) nor 1 (by skips)",
     Refusal.BAD_CUT: "the cut is above u",
-    Refusal.OUTSIDE: "the slot to be tested is not in 1..u",
+    Refusal.OUTSIDE: "the slot asked about is not in 1..u",
     Refusal.BAD_BITS: "a bit beyond the cut is set",
 }
 
@@ -300,6 +301,20 @@ def test(index: Bytes, name: int, slot: int) -> Tested:
     held = _held("index", index)
     answer = _accepted(_call("slots_test", 3, held, len(held), _number("name", name), _number("slot", slot)))
     return Tested(answer[2] == 1)
+
+
+def next(index: Bytes, name: int, slot: int) -> Optional[int]:
+    """Which slot of the list comes next, from `slot` on: the least that is not below it, so `slot` itself where the list holds it; None if there is none.
+
+    No slot is 0, so that `if` tells a slot from none. None is no number: a program that forgets it fails, and does not step through the list anew.
+    To step through a list, ask from 1, and then each time from one above the slot told, unless that was u. Every call looks at the whole index: `ask`
+    with this one name gives all slots of the list at once.
+
+    Refuses as `test` does.
+    """
+    held = _held("index", index)
+    answer = _accepted(_call("slots_next", 3, held, len(held), _number("name", name), _number("slot", slot)))
+    return answer[2] or None
 
 
 def count(index: Bytes, name: int) -> Counted:
@@ -532,6 +547,7 @@ _FUNCTIONS = {
     "slots_look": (*_INDEX, *_OUT),
     "slots_ask": (*_INDEX, _NUMBER, *_ROW, *_ROW, *_OUT),
     "slots_test": (*_INDEX, _NUMBER, _NUMBER, *_OUT),
+    "slots_next": (*_INDEX, _NUMBER, _NUMBER, *_OUT),
     "slots_count": (*_INDEX, _NUMBER, *_OUT),
     "slots_lend": (*_INDEX, _NUMBER, *_OUT),
     "slots_bound": (_NUMBER, _NUMBER, _NUMBER, _NUMBER, *_OUT),

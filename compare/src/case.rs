@@ -16,6 +16,7 @@ pub enum Call {
     Write { u: u32, block: u32, cut: u32 },
     Close { u: u32, block: u32, total: u32 },
     Bound(Sizes),
+    Next { name: u32, slot: u32 },
 }
 
 /// What is known of a record before it is written; n is how many of its slots
@@ -32,8 +33,8 @@ pub struct Sizes {
 pub const LOOKS_AT: Range<usize> = 5..21;
 pub const CODES_AT: Range<usize> = 21..37;
 
-pub const CALLS: [&str; 8] = [
-    "look", "ask", "test", "count", "lend", "write", "close", "bound",
+pub const CALLS: [&str; 9] = [
+    "look", "ask", "test", "count", "lend", "write", "close", "bound", "next",
 ];
 
 impl Call {
@@ -48,6 +49,7 @@ impl Call {
             Call::Write { .. } => 5,
             Call::Close { .. } => 6,
             Call::Bound(_) => 7,
+            Call::Next { .. } => 8,
         }
     }
 
@@ -56,7 +58,7 @@ impl Call {
         match self {
             Call::Look => [0, 0, 0, 0],
             Call::Ask { way } => [way, 0, 0, 0],
-            Call::Test { name, slot } => [name, slot, 0, 0],
+            Call::Test { name, slot } | Call::Next { name, slot } => [name, slot, 0, 0],
             Call::Count { name } | Call::Lend { name } => [name, 0, 0, 0],
             Call::Write { u, block, cut } => [u, block, cut, 0],
             Call::Close { u, block, total } => [u, block, total, 0],
@@ -224,12 +226,7 @@ impl Case {
                 let a = second::count(index, name);
                 answer(a.number, a.place, &[u64::from(a.count)])
             }
-            // A lent part has no number: only where it lies is told.
-            Call::Lend { name } => {
-                let a = second::part(index, name);
-                let numbers = vec![u64::from(a.start), u64::from(a.length)];
-                ((a.number, a.place), numbers, a.length)
-            }
+            Call::Lend { name } => lent(&second::part(index, name)),
             Call::Write { u, block, cut } => {
                 let a = second::write(u, block, cut, given, &mut after.bytes);
                 answer(a.number, a.place, &[u64::from(a.length)])
@@ -241,6 +238,10 @@ impl Case {
             Call::Bound(Sizes { u, block, cut, n }) => {
                 let a = second::bound(u, block, cut, n);
                 answer(a.number, a.place, &[u64::from(a.bytes)])
+            }
+            Call::Next { name, slot } => {
+                let a = second::next(index, name, slot);
+                answer(a.number, a.place, &[u64::from(a.slot)])
             }
         }
     }
@@ -264,6 +265,12 @@ fn answer(number: u32, place: u32, more: &[u64]) -> (Verdict, Vec<u64>, u32) {
     let mut numbers = vec![u64::from(number), u64::from(place)];
     numbers.extend(more);
     ((number, place), numbers, number)
+}
+
+/// A lent part has no number: only where it lies is told.
+fn lent(a: &second::Part) -> (Verdict, Vec<u64>, u32) {
+    let numbers = vec![u64::from(a.start), u64::from(a.length)];
+    ((a.number, a.place), numbers, a.length)
 }
 
 /// A question's answer, with the costs of all positions.

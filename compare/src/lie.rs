@@ -7,7 +7,7 @@ use second::random::Random;
 use std::ops::Range;
 
 /// What a lie alters.
-pub const LIES: [&str; 11] = [
+pub const LIES: [&str; 12] = [
     "the number returned",
     "a number of the answer",
     "a slot of the answer",
@@ -19,6 +19,7 @@ pub const LIES: [&str; 11] = [
     "the last zero behind the slots",
     "the cost of a position",
     "the bytes of a bound",
+    "the next slot",
 ];
 
 /// An answer with one byte changed, where the case has such a byte.
@@ -46,7 +47,9 @@ pub fn told(
             slots.end.saturating_sub(4).max(slots.start)..slots.end
         }
         9 => costs(case, part(Part::Within, 3)),
-        _ => bytes(case, part(Part::Within, 3)),
+        10 if matches!(case.call, Call::Bound(_)) => third_number(part(Part::Within, 3)),
+        11 if matches!(case.call, Call::Next { .. }) => third_number(part(Part::Within, 3)),
+        _ => 0..0,
     };
     if range.is_empty() {
         return None;
@@ -68,12 +71,9 @@ fn costs(case: &Case, out: Range<usize>) -> Range<usize> {
     }
 }
 
-/// The last number that a bound tells, where the slice has a place for it.
-fn bytes(case: &Case, out: Range<usize>) -> Range<usize> {
-    match case.call {
-        Call::Bound(_) => out.start + 8 * 2..out.end.min(out.start + 8 * 3),
-        _ => 0..0,
-    }
+/// What stands behind number and place, where the slice has a place for it.
+fn third_number(out: Range<usize>) -> Range<usize> {
+    out.start + 8 * 2..out.end.min(out.start + 8 * 3)
 }
 
 /// The byte behind a written record or a closed index.

@@ -45,6 +45,7 @@ impl Limits {
         let case = match number {
             0..=16 => self.of_the_longest(number, random),
             17..=37 => of_many(number, random),
+            38..=43 => self.of_next(number),
             _ => return None,
         };
         Some(case.whole_out(random))
@@ -75,6 +76,20 @@ impl Limits {
             14 => self.close(0, LONGEST, &[]),
             15 => self.close(0, LONGEST - 1, &[(12, LONGEST as u32)]),
             _ => self.close(1, LONGEST + 1, &[(1, 0)]),
+        }
+    }
+
+    /// The next slot: in an index of a byte too many, in the last list of the
+    /// longest, in the last of many lists, and behind as many bits as can be.
+    fn of_next(&self, number: u64) -> Case {
+        let next = |name, slot| Call::Next { name, slot };
+        match number {
+            38 => self.too_long(next(0, 1)),
+            39 => Case::new("limit: next", next(127, 1_000_000), self.index.clone()).accepted(),
+            40 => last_of_many(next(4_095, 18)),
+            41 => over_bits(MOST_SLOTS, &[MOST_SLOTS]),
+            42 => over_bits(MOST_SLOTS - 1, &[MOST_SLOTS]),
+            _ => over_bits(MOST_SLOTS - 1, &[]),
         }
     }
 
@@ -194,6 +209,13 @@ fn long_bits(call: Call, behind: u8, aim: &[Verdict]) -> Case {
     list.bits[131_071] |= behind;
     let bytes = index(MOST_SLOTS, 1, &[list.bytes()]);
     Case::new("limit: bits", call, bytes).refused_by(aim)
+}
+
+/// The next slot from the first one on, in a list whose bits have 131,072 bytes.
+fn over_bits(cut: u32, slots: &[u32]) -> Case {
+    let bytes = index(MOST_SLOTS, 1, &[List::of(1, cut, slots).bytes()]);
+    let call = Call::Next { name: 0, slot: 1 };
+    Case::new("limit: next", call, bytes).accepted()
 }
 
 /// So many empty lists, closed.

@@ -16,6 +16,7 @@ mod lie;
 mod limits;
 mod make;
 mod measure;
+mod next;
 mod one;
 mod pack;
 mod read;

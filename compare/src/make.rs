@@ -4,6 +4,7 @@ use crate::pack::{index, List};
 use second::random::Random;
 
 pub const MOST_SLOTS: u32 = 1_048_576;
+pub const MOST_LISTS: u32 = 4_096;
 pub const WILD: u32 = u32::MAX;
 
 /// Lists of one u and B, with the slots that each holds.
@@ -209,7 +210,7 @@ pub fn some_limit(random: &mut Random) -> u32 {
 /// A shelf of one to a dozen lists, or once in a long while of 4,096.
 pub fn some_shelf(random: &mut Random) -> Shelf {
     if once_in(random, 3_000) {
-        return shelf_of(random, 32, 4, 4_096, 2);
+        return shelf_of(random, 32, 4, MOST_LISTS, 2);
     }
     let k = one_of(random, &[1, 1, 2, 2, 3, 3, 3, 4, 5, 6, 8, 12]);
     let u = some_u(random);

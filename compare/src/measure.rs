@@ -11,7 +11,7 @@ pub const TWO: u32 = 129;
 pub const THREE: u32 = 16_385;
 
 /// An event, and whether it happened.
-type Row = (&'static str, bool);
+pub type Row = (&'static str, bool);
 
 impl Sizes {
     /// The most bytes of a record, for good sizes: the head, a byte for up to
@@ -172,7 +172,7 @@ pub fn met_by_room(length: u64, room: u64, most: u64) -> Result<BTreeSet<&'stati
     Ok(happened(unwritten(length, room, most)))
 }
 
-fn happened(rows: impl IntoIterator<Item = Row>) -> BTreeSet<&'static str> {
+pub fn happened(rows: impl IntoIterator<Item = Row>) -> BTreeSet<&'static str> {
     let rows = rows.into_iter().filter(|row| row.1);
     rows.map(|row| row.0).collect()
 }

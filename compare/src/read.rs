@@ -24,6 +24,11 @@ pub fn k(index: &[u8]) -> u32 {
     number(index, index.len() - 12)
 }
 
+/// u.
+pub fn u(index: &[u8]) -> u32 {
+    number(index, index.len() - 20)
+}
+
 /// B.
 pub fn block(index: &[u8]) -> u32 {
     number(index, index.len() - 16)

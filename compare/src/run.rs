@@ -17,7 +17,7 @@ const SHOWN: u64 = 5;
 /// So many cases may be under way.
 const AHEAD: usize = 256;
 /// One answer in so many is falsified once more after it was found good.
-const LIE_EVERY: u32 = 10;
+const LIE_EVERY: u32 = 8;
 
 /// A case under way. One of the limits has no number.
 struct Job {

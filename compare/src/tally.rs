@@ -3,6 +3,7 @@
 use crate::case::{Call, Case, Outcome, Verdict, CALLS, CODES_AT, LOOKS_AT};
 use crate::lie::LIES;
 use crate::measure;
+use crate::next;
 use crate::read;
 use crate::third::{Met, PLAIN_ZEROS, REFUSED_ZEROS};
 use crate::trace;
@@ -38,6 +39,7 @@ const BY_17: [Option<&str>; CALLS.len()] = [
     None,
     Some("17 in closing"),
     None,
+    Some("17 in telling the next slot"),
 ];
 
 /// Numbers whose places are counted: 6 to 9 and 17 by list, then 11 and 13 by
@@ -80,7 +82,7 @@ type Order = (&'static str, u32, u32);
 
 /// Orders that must be met. Two faults of an index's lists are one list's, or by
 /// "lists" those of an earlier and a later one.
-const ORDERS: [(&str, &[(u32, u32)]); 7] = [
+const ORDERS: [(&str, &[(u32, u32)]); 8] = [
     (
         "index",
         &[
@@ -108,6 +110,9 @@ const ORDERS: [(&str, &[(u32, u32)]); 7] = [
             (1, 14),
             (9, 14),
             (17, 14),
+            (1, 11),
+            (9, 11),
+            (17, 11),
         ],
     ),
     (
@@ -166,6 +171,7 @@ const ORDERS: [(&str, &[(u32, u32)]); 7] = [
         ],
     ),
     ("bound", &[(4, 15), (4, 13), (15, 13)]),
+    ("next", &[(11, 16)]),
 ];
 
 /// Whether a number is that of a fault in a list.
@@ -391,5 +397,6 @@ fn required() -> impl Iterator<Item = &'static str> {
     let spots = SPOTS.into_iter().chain(by_17).chain(closed);
     let costs = [REFUSED_ZEROS, PLAIN_ZEROS].into_iter().chain(ENDS);
     let others = costs.chain(rooms).chain(spots);
-    trace::required().chain(measure::required()).chain(others)
+    let told = measure::required().chain(next::required());
+    trace::required().chain(told).chain(others)
 }

@@ -1,13 +1,15 @@
 //! What is known of an answer without either implementation: the refusal that
 //! a case was made for, and for accepted calls a plain reading of the bytes.
 
-use crate::case::{Call, Case, Outcome, Sizes, CODES_AT, LOOKS_AT};
+use crate::case::{Call, Case, Outcome, Sizes, Verdict, CODES_AT, LOOKS_AT};
 use crate::measure::{met_by_length, met_by_room};
+use crate::next;
 use crate::pack::{ending, List};
 use crate::read::{self, Seen};
 use crate::trace::{common, met_by_costs, met_by_count, met_by_list, met_by_names, walk};
 use crate::trace::{WRITTEN_CUT, WRITTEN_THREE, WRITTEN_TWO};
 use std::collections::{BTreeMap, BTreeSet};
+use std::panic::catch_unwind;
 
 /// What a case has met on its way.
 pub type Met = BTreeSet<&'static str>;
@@ -15,15 +17,21 @@ pub type Met = BTreeSet<&'static str>;
 pub const REFUSED_ZEROS: &str = "refused: all 32 places of the costs made 0";
 pub const PLAIN_ZEROS: &str = "plain: all 32 made 0, where skips would cost";
 
-/// Holds an answer against what is known of it, in words where they differ.
+/// Holds an answer against what is known of it, in words where they differ. The
+/// plain reading takes it that an index is one. Where it fails, the index was none,
+/// and the answer should have said so; a run has to go on and tell that.
 pub fn check(case: &Case, outcome: &Outcome) -> Result<Met, String> {
+    let held = catch_unwind(|| by_all(case, outcome));
+    held.unwrap_or_else(|_| Err("what was taken for an index cannot be read".to_string()))
+}
+
+fn by_all(case: &Case, outcome: &Outcome) -> Result<Met, String> {
     if let Some(aim) = case.aim {
         if aim != outcome.verdict {
             return Err(format!("made for {aim:?}, answered {:?}", outcome.verdict));
         }
     }
-    if let Call::Bound(sizes) = case.call {
-        let must = sizes.verdict();
+    if let Some(must) = by_the_numbers(case, outcome) {
         if must != outcome.verdict {
             return Err(format!("must be {must:?}, is {:?}", outcome.verdict));
         }
@@ -32,6 +40,19 @@ pub fn check(case: &Case, outcome: &Outcome) -> Result<Met, String> {
         return refused(case, outcome);
     }
     by_the_bytes(case, outcome)
+}
+
+/// The verdict by the plain arguments, where these tell it: always that of a
+/// bound, and where the index was found sound that of a name and a slot.
+fn by_the_numbers(case: &Case, outcome: &Outcome) -> Option<Verdict> {
+    let sound = matches!(outcome.verdict.0, 0 | 11 | 16);
+    match case.call {
+        Call::Bound(sizes) => Some(sizes.verdict()),
+        Call::Test { name, slot } | Call::Next { name, slot } if sound => {
+            Some(next::verdict(&case.before.bytes, name, slot))
+        }
+        _ => None,
+    }
 }
 
 /// A refusal tells its number and place and zeros, a part not lent only zeros.
@@ -43,9 +64,11 @@ fn refused(case: &Case, outcome: &Outcome) -> Result<Met, String> {
     if outcome.numbers[told..].iter().any(|&number| number != 0) {
         return Err("refused, and not all else is 0".to_string());
     }
+    let number = outcome.verdict.0;
     match case.call {
-        Call::Bound(sizes) => Ok(sizes.met(outcome.verdict.0, case.before.out.len())),
-        Call::Write { u, block, cut } if outcome.verdict.0 == 12 => {
+        Call::Bound(sizes) => Ok(sizes.met(number, case.before.out.len())),
+        Call::Next { name, slot } => Ok(next::refused(&case.before.bytes, number, name, slot)),
+        Call::Write { u, block, cut } if number == 12 => {
             let room = case.before.bytes.len() as u64;
             met_by_room(outcome.numbers[1], room, bound_of(case, u, block, cut))
         }
@@ -105,7 +128,17 @@ fn by_the_bytes(case: &Case, outcome: &Outcome) -> Result<Met, String> {
             same("bytes", outcome.numbers[2], sizes.most())?;
             Ok(sizes.met(0, case.before.out.len()))
         }
+        Call::Next { name, slot } => next_slot(case, outcome, name, slot),
     }
+}
+
+fn next_slot(case: &Case, outcome: &Outcome, name: u32, slot: u32) -> Result<Met, String> {
+    let index = &case.before.bytes;
+    let list = accepted(index, name)?;
+    let must = next::least(&list.held, slot);
+    same("slot", outcome.numbers[2], u64::from(must))?;
+    let met = next::met(&list, read::u(index), slot, case.before.out.len());
+    Ok(&met_by_list(&list) | &met)
 }
 
 /// No list of an accepted index has a bit set behind its cut.
@@ -233,4 +266,48 @@ fn costs(outcome: &Outcome, looks: &[u64], codes: &[u64]) -> Result<Met, String>
         )?;
     }
     Ok(Met::new())
+}
+
+#[cfg(test)]
+mod tests {
+    use super::*;
+
+    /// The next slot of some bytes, answered by such a verdict and such a slot.
+    fn told(bytes: &[u8], verdict: Verdict, slot: u64) -> Result<Met, String> {
+        let call = Call::Next { name: 0, slot: 2 };
+        let case = Case::new("a test", call, bytes.to_vec());
+        let outcome = Outcome {
+            verdict,
+            numbers: vec![verdict.0.into(), verdict.1.into(), slot],
+            returned: verdict.0,
+            after: case.before.clone(),
+        };
+        check(&case, &outcome)
+    }
+
+    #[test]
+    fn a_next_slot_is_held_to_the_bytes() {
+        let bytes = crate::pack::index(3, 1, &[List::of(1, 1, &[3]).bytes()]);
+        assert!(told(&bytes, (0, 0), 3).is_ok());
+        assert!(told(&bytes, (0, 0), 0).is_err());
+        assert!(told(&bytes, (0, 0), 2).is_err());
+        assert!(told(&bytes, (16, 0), 0).is_err());
+        assert!(told(&bytes, (11, 0), 0).is_err());
+        // The unused bits are set.
+        let mut soiled = List::of(1, 1, &[3]);
+        soiled.bits[0] |= 127;
+        let bytes = crate::pack::index(3, 1, &[soiled.bytes()]);
+        assert!(told(&bytes, (0, 0), 3).is_err());
+        assert!(told(&bytes, (17, 0), 0).is_ok());
+        assert!(told(&bytes, (17, 0), 3).is_err());
+    }
+
+    #[test]
+    fn what_cannot_be_read_must_be_refused() {
+        assert!(told(&[], (1, 0), 0).is_ok());
+        for number in [0, 11, 16] {
+            assert!(told(&[], (number, 0), 0).is_err());
+            assert!(told(&[255; 30], (number, 0), 0).is_err());
+        }
+    }
 }

@@ -12,12 +12,20 @@ pub const UNSORTED: &str = "three different counts, unsorted";
 pub const TIES: &str = "two lists of one count";
 pub const TWICE: &str = "a list named twice";
 pub const GALLOP: &str = "p+16 looked at, three halvings, p > 0";
-pub const BEFORE_BLOCKS: &str = "j = 0 with c > 0 and m > 0";
 pub const AT_CUT: &str = "x = c";
-pub const BEHIND_BLOCK: &str = "x behind a block that isn't the last";
 pub const BEHIND_ALL: &str = "x behind the last block";
 pub const STAYED: &str = "finger above 0 stays";
 pub const NONE_LEFT: &str = "no candidate left for a name";
+
+// A candidate is dropped, and the next slot is a block's first one: that may be
+// neither kept nor charged, and the finger may not go there.
+pub const BEFORE_BLOCKS: &str = "j = 0 with c > 0 and m > 0";
+pub const BEFORE_ALL: &str = "j = 0 with c = 0 and m > 0";
+pub const BEHIND_BLOCK: &str = "x behind a block that isn't the last";
+pub const BEHIND_BITS: &str = "x up to c dropped, no bit set behind it, m > 0";
+pub const FINGER_AHEAD: &str = "other looks, were the finger at the next block";
+// Where there is no block either, no slot is the next.
+pub const BEHIND_BITS_ALL: &str = "x up to c dropped, no bit set behind it, m = 0";
 
 // A position counts as one with a cost where it has looks and codes.
 pub const COST_BELOW: &str = "a cost below the starting list's position";
@@ -52,7 +60,7 @@ pub fn required() -> impl Iterator<Item = &'static str> {
     MET.into_iter().chain(COUNTED)
 }
 
-const MET: [&str; 25] = [
+const MET: [&str; 29] = [
     TWO_BYTES,
     THREE_BYTES,
     INSIDE,
@@ -61,12 +69,16 @@ const MET: [&str; 25] = [
     TIES,
     TWICE,
     GALLOP,
-    BEFORE_BLOCKS,
     AT_CUT,
-    BEHIND_BLOCK,
     BEHIND_ALL,
     STAYED,
     NONE_LEFT,
+    BEFORE_BLOCKS,
+    BEFORE_ALL,
+    BEHIND_BLOCK,
+    BEHIND_BITS,
+    FINGER_AHEAD,
+    BEHIND_BITS_ALL,
     COST_BELOW,
     COST_ABOVE,
     COST_THREE,
@@ -98,6 +110,15 @@ struct Found {
     looks: u64,
     sixteen: bool,
     halvings: u32,
+}
+
+/// Where the searches in one list stand.
+#[derive(Default)]
+struct Trail {
+    finger: usize,
+    /// Whether the last one dropped its slot, and the next slot is the first of
+    /// the block behind the finger's.
+    behind: bool,
 }
 
 /// The slots that all lists hold, as sets.
@@ -225,19 +246,12 @@ fn sift(walk: &mut Walk, position: usize, list: &Seen) {
     if walk.slots.is_empty() {
         walk.met.insert(NONE_LEFT);
     }
-    let mut finger = 0;
+    let mut trail = Trail::default();
     for x in std::mem::take(&mut walk.slots) {
         let holds = if x <= list.cut {
-            if x == list.cut {
-                walk.met.insert(AT_CUT);
-            }
-            list.held.binary_search(&x).is_ok()
+            in_bits(walk, list, x)
         } else {
-            let found = search(list, finger, x);
-            note(walk, list, finger, &found);
-            finger = found.j;
-            walk.looks[position] += found.looks;
-            found.j > 0 && in_block(walk, position, list, found.j, x)
+            in_tail(walk, position, list, &mut trail, x)
         };
         if holds {
             walk.slots.push(x);
@@ -245,16 +259,56 @@ fn sift(walk: &mut Walk, position: usize, list: &Seen) {
     }
 }
 
-/// What is worth counting about one search.
-fn note(walk: &mut Walk, list: &Seen, finger: usize, found: &Found) {
+/// Whether the bit of x is set, which costs nothing.
+fn in_bits(walk: &mut Walk, list: &Seen, x: u32) -> bool {
+    if x == list.cut {
+        walk.met.insert(AT_CUT);
+    }
+    let holds = list.held.binary_search(&x).is_ok();
+    if !holds && between(list, x, list.cut) == 0 {
+        let alone = list.blocks.is_empty();
+        walk.met
+            .insert(if alone { BEHIND_BITS_ALL } else { BEHIND_BITS });
+    }
+    holds
+}
+
+/// Whether the list holds x, which lies above its cut: a search, and a block read.
+fn in_tail(walk: &mut Walk, position: usize, list: &Seen, trail: &mut Trail, x: u32) -> bool {
+    let found = search(list, trail.finger, x);
+    note(walk, list, trail, x, &found);
+    walk.looks[position] += found.looks;
+    let holds = found.j > 0 && in_block(walk, position, list, found.j, x);
+    *trail = Trail {
+        finger: found.j,
+        behind: ended(list, found.j, x) && found.j < list.blocks.len(),
+    };
+    holds
+}
+
+/// Whether no slot up to block j's last one is x or larger.
+fn ended(list: &Seen, j: usize, x: u32) -> bool {
+    j == 0 || list.blocks[j - 1].iter().all(|coded| coded.0 < x)
+}
+
+/// What is worth counting about one search for x.
+fn note(walk: &mut Walk, list: &Seen, trail: &Trail, x: u32, found: &Found) {
+    let finger = trail.finger;
     if found.sixteen && found.halvings >= 3 && finger > 0 {
         walk.met.insert(GALLOP);
     }
-    if found.j == 0 && list.cut > 0 && !list.blocks.is_empty() {
-        walk.met.insert(BEFORE_BLOCKS);
+    if found.j == 0 && !list.blocks.is_empty() {
+        walk.met.insert(if list.cut > 0 {
+            BEFORE_BLOCKS
+        } else {
+            BEFORE_ALL
+        });
     }
     if found.j == finger && finger > 0 {
         walk.met.insert(STAYED);
+    }
+    if trail.behind && search(list, finger + 1, x).looks != found.looks {
+        walk.met.insert(FINGER_AHEAD);
     }
 }
 
@@ -401,6 +455,33 @@ mod tests {
         assert_eq!(met(&[1, 1, 1, 0]), four);
         let sixteen = BTreeSet::from([COST_ABOVE, COST_THREE, COST_LAST]);
         assert_eq!(met(&[1; 16]), sixteen);
+    }
+
+    #[test]
+    fn where_candidates_are_dropped() {
+        // What is met where these slots are sought in such a list of blocks of two.
+        let met = |cut: u32, slots: &[u32], sought: &[u32]| {
+            let lists = shelf(2, &[(0, sought), (cut, slots)]);
+            walked(&lists, &[0, 1]).met
+        };
+        let tail = [10, 11, 20, 21];
+        assert_eq!(met(0, &tail, &[12]), BTreeSet::from([BEHIND_BLOCK]));
+        let twice = BTreeSet::from([BEHIND_BLOCK, FINGER_AHEAD, STAYED]);
+        assert_eq!(met(0, &tail, &[12, 13]), twice);
+        // The last search comes to block 2 by one look, and by none from there.
+        let later = BTreeSet::from([BEHIND_BLOCK, FINGER_AHEAD]);
+        assert_eq!(met(0, &tail, &[12, 20]), later);
+        assert_eq!(met(0, &tail, &[9]), BTreeSet::from([BEFORE_ALL]));
+        assert_eq!(met(4, &tail, &[9]), BTreeSet::from([BEFORE_BLOCKS]));
+        // Here the dropped slot's next one is in its block.
+        assert_eq!(
+            met(0, &[10, 12, 20, 21], &[11, 13]),
+            BTreeSet::from([BEHIND_BLOCK, STAYED])
+        );
+        assert_eq!(met(16, &[3, 20], &[4]), BTreeSet::from([BEHIND_BITS]));
+        assert_eq!(met(16, &[3], &[4]), BTreeSet::from([BEHIND_BITS_ALL]));
+        assert_eq!(met(16, &[3, 5], &[4]), BTreeSet::new());
+        assert_eq!(met(16, &[3, 20], &[3]), BTreeSet::new());
     }
 
     #[test]

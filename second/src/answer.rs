@@ -50,6 +50,14 @@ pub struct Tested {
     pub yes: bool,
 }
 
+/// The next slot of one list; 0 where it has no more, and on a refusal.
+#[derive(Clone, Copy, Debug, PartialEq, Eq)]
+pub struct Next {
+    pub number: u32,
+    pub place: u32,
+    pub slot: u32,
+}
+
 /// The outcome of counting one list.
 #[derive(Clone, Copy, Debug, PartialEq, Eq)]
 pub struct Counted {
@@ -103,6 +111,16 @@ impl From<Verdict> for Tested {
             number: v.number,
             place: v.place,
             yes: false,
+        }
+    }
+}
+
+impl From<Verdict> for Next {
+    fn from(v: Verdict) -> Next {
+        Next {
+            number: v.number,
+            place: v.place,
+            slot: 0,
         }
     }
 }

@@ -4,7 +4,9 @@
 //! It exists so that another implementation can be held against it. Everything
 //! is done in the most direct way: a list is cut into its parts, each part is
 //! judged, and the judged parts are decoded. Every operation takes any input
-//! whatever and gives an answer.
+//! whatever and gives an answer. Only `seek`, the search that stands within them,
+//! wants a slot and a finger that fit the list, which comes from an index that was
+//! opened and so is sound.
 #![forbid(unsafe_code)]
 
 mod answer;
@@ -20,15 +22,17 @@ mod question;
 pub mod random;
 mod record;
 mod search;
+mod seek;
 mod write;
 
-pub use answer::{Answer, Bound, Counted, Part, Tested, Verdict, Written};
+pub use answer::{Answer, Bound, Counted, Next, Part, Tested, Verdict, Written};
 pub use bound::bound;
 pub use close::close;
-pub use look::look;
+pub use look::{look, open, Index};
 pub use program::{program, read_line};
-pub use question::{ask, count, lend, part, test};
+pub use question::{ask, count, lend, next, part, test};
 pub use search::search;
+pub use seek::{seek, Sought};
 pub use write::write;
 
 /// The largest index, in bytes.

@@ -1,11 +1,10 @@
-//! Questions to an index: intersecting lists, testing a slot, counting a list
-//! and lending its record.
+//! Questions to an index: intersecting lists, testing a slot, telling the next one,
+//! counting a list and lending its record.
 
-use crate::answer::{Answer, Counted, Part, Tested, Verdict};
-use crate::code;
+use crate::answer::{Answer, Counted, Next, Part, Tested, Verdict};
 use crate::look::{open, Index};
 use crate::record::Record;
-use crate::search::search;
+use crate::seek::seek;
 use crate::MOST_NAMES;
 
 const PLAIN: u32 = 0;
@@ -120,73 +119,62 @@ fn by_skips(lists: &[Record]) -> Found {
     }
 }
 
-/// The candidates that one list holds, and what finding them has cost.
+/// The candidates that one list holds, and what finding them has cost. A candidate
+/// is held exactly where it is itself the next slot.
 fn sift(list: &Record, candidates: &[u32]) -> (Vec<u32>, Cost) {
-    let m = list.blocks() as u32;
-    let entry = |position: u32| list.first(position as usize - 1);
-
     let mut kept = Vec::new();
     let mut cost = Cost::default();
     let mut finger = 0;
     for &x in candidates {
-        let holds = if x <= list.cut {
-            list.bit(x)
-        } else {
-            let (j, looks) = search(entry, m, finger, x);
-            finger = j;
-            cost.looks += looks;
-            if j == 0 {
-                false
-            } else {
-                let (holds, codes) = read_block(list, j as usize - 1, x);
-                cost.codes += codes;
-                holds
-            }
-        };
-        if holds {
+        let sought = seek(list, finger, x);
+        finger = sought.finger;
+        cost.looks += sought.looks;
+        cost.codes += sought.codes;
+        if sought.next == x {
             kept.push(x);
         }
     }
     (kept, cost)
 }
 
-/// Reads one block as far as needed to tell whether it holds `x`; also gives
-/// how many codes were read.
-fn read_block(list: &Record, b: usize, x: u32) -> (bool, u64) {
-    let mut slot = list.first(b);
-    let mut rest = list.codes_of(b);
-    let mut codes = 0;
-    while slot < x {
-        let Some((value, used)) = code::read(rest) else {
-            break;
-        };
-        codes += 1;
-        slot += value + 1;
-        rest = &rest[used..];
-    }
-    (slot == x, codes)
-}
-
-/// The checks that testing, counting and lending share: the index and 11.
+/// The checks of every operation on one list: the index and 11.
 fn chosen(index: &[u8], name: u32) -> Result<(Index<'_>, usize), Verdict> {
     let index = open(index)?;
     let i = named(&index, name, 0)?;
     Ok((index, i))
 }
 
+/// The checks where a slot is given too: the index, 11 and 16. Gives the list.
+fn chosen_for(index: &[u8], name: u32, slot: u32) -> Result<Record<'_>, Verdict> {
+    let (index, i) = chosen(index, name)?;
+    if slot < 1 || slot > index.u {
+        return Err(Verdict::plain(16));
+    }
+    Ok(index.records[i])
+}
+
 /// Tells whether a list holds a slot.
 pub fn test(index: &[u8], name: u32, slot: u32) -> Tested {
-    let (index, i) = match chosen(index, name) {
-        Ok(list) => list,
-        Err(refusal) => return refusal.into(),
-    };
-    if slot < 1 || slot > index.u {
-        return Verdict::plain(16).into();
+    match chosen_for(index, name, slot) {
+        Ok(list) => Tested {
+            number: 0,
+            place: 0,
+            yes: list.slots().binary_search(&slot).is_ok(),
+        },
+        Err(refusal) => refusal.into(),
     }
-    Tested {
-        number: 0,
-        place: 0,
-        yes: index.records[i].slots().binary_search(&slot).is_ok(),
+}
+
+/// Tells the least slot of a list that is not below a slot, itself included. It is
+/// one search from the front of the list, whose cost nobody is told.
+pub fn next(index: &[u8], name: u32, slot: u32) -> Next {
+    match chosen_for(index, name, slot) {
+        Ok(list) => Next {
+            number: 0,
+            place: 0,
+            slot: seek(&list, 0, slot).next,
+        },
+        Err(refusal) => refusal.into(),
     }
 }
 

@@ -17,7 +17,7 @@ import slots
 
 from .common import BEYOND, DAMAGED, EXAMPLE, LIST_0, LIST_1, PYTHON, RACK, REPOSITORY, SURROUNDINGS
 
-COMMANDS = ["look", "show", "ask", "pack", "draw"]
+COMMANDS = ["look", "show", "ask", "next", "pack", "draw"]
 
 # By hand from docs/FORMAT.md: the heads say cut, tail and code bytes; list 1 has four slots as bits; the records have 55 and 24 bytes.
 SHOWN = """\
@@ -105,6 +105,11 @@ class BeyondTheCut(Case):
         for names in ["0", "1"], ["0"], ["9"], []:  # also where the list is not named, and where the names are wrong
             for way in "plain", "skips":
                 self.prints(1, SAID, "ask", "bad.idx", way, *names)
+
+    def test_next(self):
+        self.file("bad.idx", BEYOND)
+        for name, slot in ("0", "1"), ("1", "1"), ("9", "0"):  # likewise
+            self.prints(1, SAID, "next", "bad.idx", name, slot)
 
     def test_draw(self):
         self.prints(1, SAID, "draw", self.file("bad.idx", BEYOND), "new.svg")
@@ -211,6 +216,35 @@ class Ask(Case):
             self.complains(f"argument WAY: '{way}' is no way; write plain or skips (--help tells more)", "ask", "rack.idx", way, "0")
         for name in "x", "4294967296", "9" * 20, "-1", "", "1.0", "\u0663":
             self.complains(f"argument NAME: '{name}' is not the number of a list (--help tells more)", "ask", "rack.idx", "plain", "0", name)
+
+
+class Next(Case):
+    def test_a_slot(self):
+        for name, slot, expected in ("0", "5", 5), ("0", "7", 8), ("0", "9", 12), ("1", "6", 12), ("1", "16", 16), ("1", "17", 26):
+            self.prints(0, f"{expected}\n", "next", "rack.idx", name, slot)
+
+    def test_none(self):
+        # An answer as any other, and no refusal: the status is 0.
+        self.prints(0, "none\n", "next", "rack.idx", "0", "31")
+        self.prints(0, "none\n", "next", "rack.idx", "1", "32")
+
+    def test_zeros_in_front(self):
+        self.prints(0, "12\n", "next", "rack.idx", "00", "0" * 20 + "9")
+
+    def test_refused(self):
+        for slot in "0", "33", "4294967295":
+            self.prints(1, "refused: 16: the slot asked about is not in 1..u\n", "next", "rack.idx", "0", slot)
+        for name, slot in ("2", "1"), ("2", "0"), ("4294967295", "33"):
+            self.prints(1, "refused: 11: there is no list of that name (name at position 0)\n", "next", "rack.idx", name, slot)
+        self.prints(1, "refused: 2: the index does not end in the tag SLOT\n", "next", self.file("bad.idx", bytes(24)), "2", "0")
+        damaged = EXAMPLE[:54] + b"\x81" + EXAMPLE[55:]  # the last code of list 0 now goes on beyond its end
+        self.prints(1, "refused: 8: a code is damaged, or bytes remain behind the codes of a block (list 0)\n",
+                    "next", self.file("bad.idx", damaged), "1", "5")
+
+    def test_wrong_words(self):
+        for word in "x", "4294967296", "9" * 20, "-1", "", "1.0", "\u0663":
+            self.complains(f"argument NAME: '{word}' is not the number of a list (--help tells more)", "next", "rack.idx", word, "1")
+            self.complains(f"argument SLOT: '{word}' is not the number of a slot (--help tells more)", "next", "rack.idx", "0", word)
 
 
 class Pack(Case):
@@ -347,6 +381,9 @@ class Usage(Case):
             ([], "the following arguments are required: COMMAND"),
             (["look"], "the following arguments are required: FILE"),
             (["ask", "rack.idx"], "the following arguments are required: WAY"),
+            (["next", "rack.idx"], "the following arguments are required: NAME, SLOT"),
+            (["next", "rack.idx", "0"], "the following arguments are required: SLOT"),
+            (["next", "rack.idx", "0", "7", "9"], "unrecognized arguments: 9"),
             (["pack", "a"], "the following arguments are required: INDEX"),
             (["draw", "a"], "the following arguments are required: OUT.svg"),
             (["look", "a", "b\nc"], "unrecognized arguments: b\\nc"),
@@ -359,7 +396,7 @@ class Usage(Case):
         self.assertEqual((done.stdout, done.returncode), ("", 2))
 
     def test_files_that_cannot_be_read(self):
-        for command, more in ("look", []), ("show", []), ("ask", ["plain", "0"]), ("draw", ["out.svg"]):
+        for command, more in ("look", []), ("show", []), ("ask", ["plain", "0"]), ("next", ["0", "1"]), ("draw", ["out.svg"]):
             self.complains("no.idx: No such file or directory", command, "no.idx", *more)
             self.complains(".: Is a directory", command, ".", *more)
         self.complains("a\\nb: No such file or directory", "look", "a\nb")

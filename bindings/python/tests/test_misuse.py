@@ -22,6 +22,7 @@ CALLS = [
     (slots.look, {"index": EXAMPLE}),
     (slots.ask, {"index": EXAMPLE, "way": 1, "names": [0, 1], "room": 7}),
     (slots.test, {"index": EXAMPLE, "name": 0, "slot": 5}),
+    (slots.next, {"index": EXAMPLE, "name": 0, "slot": 5}),
     (slots.count, {"index": EXAMPLE, "name": 0}),
     (slots.lend, {"index": EXAMPLE, "name": 0}),
     (slots.bound, {"u": 32, "block": 4, "cut": 16, "n": 3}),
@@ -97,6 +98,7 @@ class Numbers(Case):
         self.assertEqual(slots.ask(EXAMPLE, Whole(1), [Whole(0), 1], Whole(7)), slots.ask(EXAMPLE, 1, [0, 1]))
         self.assertEqual(slots.record(Whole(32), Whole(4), Whole(16), map(Whole, LIST_1)), RECORD_1)
         self.assertEqual(slots.bound(Whole(32), Whole(4), Whole(16), Whole(3)).bytes, 24)
+        self.assertEqual(slots.next(EXAMPLE, Whole(1), Whole(17)), 26)
 
 
 class Rows(Case):
@@ -246,11 +248,12 @@ class Library(unittest.TestCase):
         self.assertIn("run ./build-lib", said)
 
     def test_a_library_that_lacks_a_function(self):
-        """One that is older than slots_bound."""
-        older = mock.Mock(spec=[name for name in slots._FUNCTIONS if name != "slots_bound"])
-        with mock.patch("ctypes.CDLL", return_value=older):
-            with self.assertRaisesRegex(slots.NoLibrary, r"^the library cannot be loaded \(.*slots_bound.*\): run ./build-lib"):
-                slots._library.__wrapped__()
+        """One that is older than the function."""
+        for missed in "slots_bound", "slots_next":
+            older = mock.Mock(spec=[name for name in slots._FUNCTIONS if name != missed])
+            with mock.patch("ctypes.CDLL", return_value=older):
+                with self.assertRaisesRegex(slots.NoLibrary, rf"^the library cannot be loaded \(.*{missed}.*\): run ./build-lib"):
+                    slots._library.__wrapped__()
 
     def test_an_older_library(self):
         """One whose answer to a question has five fields, and not the costs of the positions."""

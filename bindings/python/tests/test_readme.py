@@ -36,7 +36,8 @@ class Readme(unittest.TestCase):
         block = re.search(r"^    \$ .*\n(?:(?:    .*)?\n)*", TEXT, re.M)[0]
         shown = re.sub(r"(?m)^    ", "", block).rstrip("\n") + "\n"
         commands = re.findall(r"^\$ (.*)\n((?:(?!\$ ).*\n)*)", shown, re.M)
-        self.assertEqual([command.split()[2] for command, _ in commands if "python3" in command], ["look", "ask", "pack", "show", "ask", "draw"])
+        self.assertEqual([command.split()[2] for command, _ in commands if "python3" in command],
+                         ["look", "ask", "pack", "show", "ask", "next", "next", "draw"])
         for command, output in commands:
             if command == "cat lists.txt":
                 (self.folder / "lists.txt").write_text(output, encoding="utf-8")

@@ -30,6 +30,7 @@ class Numbers(Case):
                 self.refused(number, place, slots.look, index)
                 self.refused(number, place, slots.ask, index, 9, [])  # the index is judged first
                 self.refused(number, place, slots.test, index, 9, 99)
+                self.refused(number, place, slots.next, index, 9, 99)
                 self.refused(number, place, slots.count, index, 9)
                 self.refused(number, place, slots.lend, index, 9)
 
@@ -100,9 +101,13 @@ class Numbers(Case):
         self.refused(12, 15, slots.ask, EXAMPLE, 0, [0], 0)
 
     def test_11_and_16_of_one_list(self):
-        self.refused(11, 0, slots.test, EXAMPLE, 2, 0)
-        self.refused(16, 0, slots.test, EXAMPLE, 1, 0)
-        self.refused(16, 0, slots.test, EXAMPLE, 1, 33)
+        for function in slots.test, slots.next:
+            for slot in 0, 1, 33:  # 11 comes first
+                self.refused(11, 0, function, EXAMPLE, 2, slot)
+                self.refused(11, 0, function, EXAMPLE, 2**32 - 1, slot)
+            for slot in 0, 33, 2**32 - 1:
+                self.refused(16, 0, function, EXAMPLE, 0, slot)
+                self.refused(16, 0, function, EXAMPLE, 1, slot)
         self.refused(11, 0, slots.count, EXAMPLE, 2)
         self.refused(11, 0, slots.lend, EXAMPLE, 2)
 
@@ -118,6 +123,7 @@ class Numbers(Case):
         self.refused(1, 0, slots.look, b"")
         self.refused(1, 0, slots.ask, b"", 0, [])
         self.refused(1, 0, slots.test, b"", 0, 0)
+        self.refused(1, 0, slots.next, b"", 0, 0)
         self.refused(1, 0, slots.count, bytearray(), 0)
         self.refused(1, 0, slots.lend, memoryview(b""), 0)
         self.refused(4, 0, slots.bound, 0, 0, 0, 0)
@@ -158,12 +164,12 @@ class Unchanged(Case):
 
     def test_an_index_can_be_resized_while_the_refusal_is_at_hand(self):
         index = bytearray(EXAMPLE)
-        for function, given in (slots.look, []), (slots.count, [2]), (slots.lend, [2]), (slots.ask, [1, []]):
+        for function, given in (slots.look, []), (slots.count, [2]), (slots.lend, [2]), (slots.ask, [1, []]), (slots.next, [2, 1]):
             try:
                 function(index, *given)
             except Refused:
                 index.append(0)
-        self.assertEqual(index, EXAMPLE + bytes(3))  # look accepted, so one less than there are calls; the others refuse the longer index as well
+        self.assertEqual(index, EXAMPLE + bytes(4))  # look accepted, so one less than there are calls; the others refuse the longer index as well
 
 
 class Words(Case):
@@ -178,10 +184,11 @@ class Words(Case):
             (Refused(11, 1), "11: there is no list of that name (name at position 1)"),
             (Refused(12, 7), "12: the room is too small (room needed: 7)"),
             (Refused(13, 0), "13: the slots to be written do not rise strictly within 1..u, or more are to lie above the cut than there are slots there (position 0)"),
+            (Refused(16, 0), "16: the slot asked about is not in 1..u"),
             (Refused(17, 1), "17: a bit beyond the cut is set (list 1)"),
         ]:
             self.assertEqual(str(refused), said)
-        for number in 1, 2, 4, 5, 14, 15, 16:
+        for number in 1, 2, 4, 5, 14, 15:
             self.assertEqual(str(Refused(number, 0)), f"{number}: {Refused(number, 0).reason}")
 
     def test_a_number_of_a_newer_library(self):
@@ -244,7 +251,7 @@ class Header(unittest.TestCase):
                  "uint32_t *": ctypes.POINTER(ctypes.c_uint32), "uint64_t *": ctypes.POINTER(ctypes.c_uint64),
                  "uint32_t ": ctypes.c_uint32, "size_t ": ctypes.c_size_t}
         declared = re.findall(r"^uint32_t (slots_\w+)\((.*?)\);", self.text, re.M | re.S)
-        self.assertEqual(len(declared), 8)
+        self.assertEqual(len(declared), 9)
         for name, parameters in declared:
             expected = [types[re.sub(r"\w+$", "", parameter)] for parameter in re.split(r",\s*", parameters)]
             function = getattr(slots._library(), name)
@@ -255,6 +262,7 @@ class Header(unittest.TestCase):
             slots.look(EXAMPLE)
             slots.ask(EXAMPLE, 1, [0, 1], 7)
             slots.test(EXAMPLE, 0, 1)
+            slots.next(EXAMPLE, 0, 1)
             slots.count(EXAMPLE, 0)
             slots.lend(EXAMPLE, 0)
             slots.bound(32, 4, 16, 3)

@@ -16,7 +16,7 @@ from unittest import mock
 import slots
 from slots import Way
 
-from .common import BOTH, EXAMPLE, LIST_0, LIST_1, RACK, RECORD_0, RECORD_1, most_bytes, random_rack
+from .common import BOTH, EXAMPLE, LIST_0, LIST_1, RACK, RECORD_0, RECORD_1, changed, most_bytes, random_rack
 
 # What the example answers by skips for lists 0 and 1, in this order. List 1 is the smaller, so all is sought in list 0.
 SOUGHT = slots.Answer(BOTH, 9, 14, (9, 0), (14, 0))
@@ -69,6 +69,22 @@ class Example(unittest.TestCase):
             for slot in range(1, 33):
                 self.assertIs(slots.test(EXAMPLE, name, slot).yes, slot in held)
 
+    def test_next(self):
+        for name, slot, expected in [
+            (0, 5, 5), (0, 7, 8), (0, 9, 12), (0, 30, 30), (0, 31, None),                       # its blocks begin with 1 8 18 27
+            (1, 1, 3), (1, 6, 12), (1, 16, 16), (1, 17, 26), (1, 27, 30), (1, 32, None),        # bits up to 16, and one block
+        ]:
+            self.assertEqual(slots.next(EXAMPLE, name, slot), expected, (name, slot))
+
+    def test_next_from_every_slot(self):
+        for name, held in (0, LIST_0), (1, LIST_1):
+            for slot in range(1, 33):
+                self.assertEqual(slots.next(EXAMPLE, name, slot), min((each for each in held if each >= slot), default=None), (name, slot))
+
+    def test_next_behind_bits_that_are_not_set(self):
+        index = changed(68, 0, 1)  # the bits of 9 to 16, which 12 and 16 were among
+        self.assertEqual([slots.next(index, 1, slot) for slot in (4, 6, 16, 17, 26)], [5, 26, 26, 26, 26])
+
     def test_count(self):
         self.assertEqual(slots.count(EXAMPLE, 0).count, 15)
         self.assertEqual(slots.count(EXAMPLE, 1).count, 7)
@@ -102,6 +118,7 @@ class Example(unittest.TestCase):
         self.assertEqual(index[:25], bytes(12) + bytes([5]) + bytes(12))
         self.assertEqual(slots.ask(index, Way.BY_SKIPS, [0, 1]), slots.Answer([], 0, 0, (0, 0), (0, 0)))
         self.assertEqual(slots.ask(index, Way.PLAIN, [1], 0), slots.Answer([], 0, 0, (0,), (0,)))
+        self.assertEqual([slots.next(index, name, slot) for name in (0, 1) for slot in (1, 5)], [None] * 4)
 
 
 class Costs(unittest.TestCase):
@@ -298,6 +315,13 @@ class Answers(unittest.TestCase):
         self.assertEqual((repr(counted), str(counted), type(counted.count)), ("Counted(count=7)", "7", int))
         self.assertFalse(slots.count(slots.index_of(9, 9, [slots.record(9, 9, 0, [])]), 0))
 
+    def test_next(self):
+        found, none = slots.next(EXAMPLE, 0, 7), slots.next(EXAMPLE, 0, 31)
+        self.assertIs(type(found), int)
+        self.assertIsNone(none)
+        with self.assertRaises(TypeError):
+            none + 1  # a step from none leads nowhere, where from 0 it would lead to 1
+
     def test_bound(self):
         bound = slots.bound(32, 4, 16, 3)
         self.assertEqual((bound == 24, bound < 25, 55 + bound, len(bytearray(bound))), (True, True, 79, 24))
@@ -332,6 +356,7 @@ class Memory(unittest.TestCase):
                 self.assertIs(True, slots.look(index))
                 self.assertEqual(slots.ask(index, 1, [0, 1]), SOUGHT)
                 self.assertTrue(slots.test(index, 0, 5))
+                self.assertEqual(slots.next(index, 0, 7), 8)
                 self.assertEqual(slots.count(index, 0), 15)
                 lent = slots.lend(index, 1)
                 self.assertEqual((lent.start, lent.record.tobytes()), (55, RECORD_1))
@@ -430,6 +455,31 @@ class Racks(unittest.TestCase):
                 self.assertEqual(slots.ask(rack.index, Way.PLAIN, [name]).slots, held)
                 slot = chance.randint(1, rack.u)
                 self.assertIs(slots.test(rack.index, name, slot).yes, slot in held)
+                self.assertEqual(slots.next(rack.index, name, slot), min((each for each in held if each >= slot), default=None))
+
+    def stepped(self, index, name, u):
+        """The slots of a list, told one after the other: from 1 on, and then from one above the slot told, where the rack has such a slot."""
+        told, start = [], 1
+        while start <= u:
+            slot = slots.next(index, name, start)
+            if slot is None:
+                break
+            self.assertGreaterEqual(slot, start)  # or there would be no end of steps
+            told.append(slot)
+            start = slot + 1
+        return told
+
+    def test_stepping_through_a_list(self):
+        chance = random.Random(6)
+        ends = set()
+        for _ in range(100):
+            rack = random_rack(chance)
+            for name, held in enumerate(rack.lists):
+                told = self.stepped(rack.index, name, rack.u)
+                self.assertEqual(told, slots.ask(rack.index, Way.PLAIN, [name]).slots)
+                self.assertEqual(told, held)
+                ends.add(told[-1:] == [rack.u])
+        self.assertEqual(ends, {True, False})  # lists that hold the last slot of the rack, and others
 
     def test_questions(self):
         chance = random.Random(2)
@@ -468,3 +518,5 @@ class Racks(unittest.TestCase):
         full = slots.index_of(u, 128, [slots.record(u, 128, u, range(1, u + 1)), slots.record(u, 128, 0, array("I", range(3, u + 1, 3)))])
         self.assertEqual(slots.ask(full, Way.BY_SKIPS, [0, 1]).slots, list(range(3, u + 1, 3)))
         self.assertEqual((slots.count(full, 0), slots.count(full, 1)), (u, u // 3))
+        # 1,048,576 is 3 * 349,525 + 1, so that list 1 ends with the slot before the last.
+        self.assertEqual([slots.next(full, name, slot) for name in (0, 1) for slot in (1, u - 2, u)], [1, u - 2, u, 3, u - 1, None])

@@ -119,6 +119,15 @@ pub struct Tested {
     pub yes: bool,
 }
 
+/// What [`next`](crate::next) found.
+#[derive(Debug, Clone, Copy, PartialEq, Eq)]
+#[non_exhaustive]
+pub struct Next {
+    /// The least slot of the list that is not below the one asked about; `None` where the list holds
+    /// none from there on.
+    pub slot: Option<u32>,
+}
+
 /// What [`count`](crate::count) found.
 #[derive(Debug, Clone, Copy, PartialEq, Eq)]
 #[non_exhaustive]

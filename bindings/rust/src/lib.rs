@@ -1,4 +1,5 @@
-//! An index of packed lists of slots: looked at, asked, tested, counted, lent from, and made.
+//! An index of packed lists of slots: looked at, asked, tested, stepped through, counted, lent from,
+//! and made.
 //!
 //! A rack has slots numbered 1 to u. A *list* is a set of slots: the empty ones, the tall ones, those
 //! within reach. An *index* packs 1 to 4,096 lists, numbered from 0, into one run of bytes. Which
@@ -9,6 +10,7 @@
 //! | [`look`] | whether an index is sound |
 //! | [`ask`], [`ask_owned`] | which slots all lists named hold, and what finding them cost, list by list |
 //! | [`test()`] | whether a list holds a slot |
+//! | [`next`] | which slot of a list comes next, from a slot on |
 //! | [`count`] | how many slots a list holds |
 //! | [`lend`] | the bytes of a list's record |
 //! | [`bound`] | how many bytes a record can need, before it is written |
@@ -51,9 +53,9 @@ mod raw;
 mod reading;
 mod refusal;
 
-pub use answer::{Answer, Bound, Counted, Lent, OwnedAnswer, Tested, Way, Written};
+pub use answer::{Answer, Bound, Counted, Lent, Next, OwnedAnswer, Tested, Way, Written};
 pub use making::{bound, close, index_of, record, write};
-pub use reading::{ask, ask_owned, count, lend, look, test};
+pub use reading::{ask, ask_owned, count, lend, look, next, test};
 pub use refusal::{Refusal, Refused};
 
 /// The most bytes that an index may have.

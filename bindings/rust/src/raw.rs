@@ -1,4 +1,4 @@
-//! The eight functions of the library as C has them, and a safe function over slices for each.
+//! The nine functions of the library as C has them, and a safe function over slices for each.
 //!
 //! All unsafe code of the package is in this file. The declarations are those of include/slots.h;
 //! a declaration that is wrong breaks every promise, so tests/header.rs compares the two texts.
@@ -28,6 +28,7 @@ extern "C" {
         out_len: usize,
     ) -> u32;
     fn slots_test(index: *const u8, index_len: usize, name: u32, slot: u32, out: *mut u64, out_len: usize) -> u32;
+    fn slots_next(index: *const u8, index_len: usize, name: u32, slot: u32, out: *mut u64, out_len: usize) -> u32;
     fn slots_count(index: *const u8, index_len: usize, name: u32, out: *mut u64, out_len: usize) -> u32;
     fn slots_lend(index: *const u8, index_len: usize, name: u32, out: *mut u64, out_len: usize) -> u32;
     fn slots_bound(u: u32, block: u32, cut: u32, n: u32, out: *mut u64, out_len: usize) -> u32;
@@ -95,6 +96,14 @@ pub(crate) fn test(index: &[u8], name: u32, slot: u32) -> [u64; 3] {
     let mut out = [UNWRITTEN; 3];
     // SAFETY: `index` is one slice, only read; `out` is written to, and is ours alone.
     let number = unsafe { slots_test(index.as_ptr(), index.len(), name, slot, out.as_mut_ptr(), out.len()) };
+    agreed(out, 0, number)
+}
+
+/// Number, place, and the next slot or 0 for none.
+pub(crate) fn next(index: &[u8], name: u32, slot: u32) -> [u64; 3] {
+    let mut out = [UNWRITTEN; 3];
+    // SAFETY: `index` is one slice, only read; `out` is written to, and is ours alone.
+    let number = unsafe { slots_next(index.as_ptr(), index.len(), name, slot, out.as_mut_ptr(), out.len()) };
     agreed(out, 0, number)
 }
 

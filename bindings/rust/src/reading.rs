@@ -1,9 +1,9 @@
-//! The calls that read an index: look, ask, test, count, lend.
+//! The calls that read an index: look, ask, test, next, count, lend.
 //!
 //! Each hands its slices to the library and puts the fields of the answer into words of Rust. Ordinary
 //! slicing checks what the library says of a caller's slice, so no answer can lead out of one.
 
-use crate::answer::{Answer, Counted, Lent, OwnedAnswer, PerName, Tested, Way};
+use crate::answer::{Answer, Counted, Lent, Next, OwnedAnswer, PerName, Tested, Way};
 use crate::raw;
 use crate::refusal::{narrow, verdict, Refusal, Refused};
 use crate::MOST_NAMES;
@@ -105,6 +105,36 @@ pub fn test(index: &[u8], name: u32, slot: u32) -> Result<Tested, Refused> {
         _ => panic!("libslots.a is not the library of this package: neither yes nor no"),
     };
     Ok(Tested { yes })
+}
+
+/// Which slot of the list `name` comes next, from `slot` on: the least that is not below it, so `slot`
+/// itself where the list holds it.
+///
+/// To step through a list, ask from 1, and then each time from one above the slot told, unless that was
+/// the last slot of the rack. Every call looks at the whole index: [`ask_owned`] with this one name
+/// gives all slots of the list at once.
+///
+/// ```
+/// use slots::{index_of, next, record};
+///
+/// // The first four slots are bits, the others gaps.
+/// let index = index_of(32, 4, &[record(32, 4, 4, &[1, 4, 5, 6, 8, 12, 15])?])?;
+///
+/// assert_eq!(next(&index, 0, 2)?.slot, Some(4));
+/// assert_eq!(next(&index, 0, 8)?.slot, Some(8));
+/// assert_eq!(next(&index, 0, 9)?.slot, Some(12));
+/// assert_eq!(next(&index, 0, 16)?.slot, None);
+/// # Ok::<(), slots::Refused>(())
+/// ```
+///
+/// # Errors
+///
+/// As [`test()`].
+pub fn next(index: &[u8], name: u32, slot: u32) -> Result<Next, Refused> {
+    let [number, place, least] = raw::next(index, name, slot);
+    verdict(number, place)?;
+    let least = narrow(least);
+    Ok(Next { slot: (least != 0).then_some(least) })
 }
 
 /// How many slots the list `name` holds.

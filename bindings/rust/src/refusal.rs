@@ -47,7 +47,7 @@ pub enum Refusal {
     BadWay,
     /// 15: the cut is above u.
     BadCut,
-    /// 16: the slot to be tested is not from 1 to u.
+    /// 16: the slot asked about is not from 1 to u.
     Outside,
     /// 17: a bit beyond the cut is set, in the last byte of a record's bits. The place is the list.
     BadBits,
@@ -102,7 +102,7 @@ impl Refusal {
             Refusal::NotRising => "the slots to be written do not rise strictly within 1..u, or more are to lie above the cut than there are slots there",
             Refusal::BadWay => "the way is neither 0 (plain) nor 1 (by skips)",
             Refusal::BadCut => "the cut is above u",
-            Refusal::Outside => "the slot to be tested is not in 1..u",
+            Refusal::Outside => "the slot asked about is not in 1..u",
             Refusal::BadBits => "a bit beyond the cut is set",
             Refusal::Unknown(_) => "a number that this package does not know",
         }

@@ -6,7 +6,7 @@
 mod common;
 
 use common::{refused, spoilt, BLOCK, U};
-use slots::{ask, ask_owned, close, count, index_of, lend, look, record, test, write, Refusal, Way};
+use slots::{ask, ask_owned, close, count, index_of, lend, look, next, record, test, write, Refusal, Way};
 
 /// The example with list 1 cut at 15, not at 16. The lowest bit of its two bytes of bits, 28 11, was
 /// slot 16 and now lies beyond the cut.
@@ -40,6 +40,7 @@ fn every_call_that_takes_an_index_refuses_it() {
     assert_eq!(slots, [99; 8]);
     for name in [0, 1, 2] {
         assert_eq!(test(&index, name, 33), refused(Refusal::BadBits, 1));
+        assert_eq!(next(&index, name, 33), refused(Refusal::BadBits, 1));
         assert_eq!(count(&index, name), refused(Refusal::BadBits, 1));
         assert_eq!(lend(&index, name), refused(Refusal::BadBits, 1));
     }
@@ -62,6 +63,7 @@ fn with_the_bit_cleared_the_index_is_sound() {
     assert_eq!(look(&index), Ok(()));
     assert_eq!(count(&index, 1).unwrap().count, 6);
     assert!(!test(&index, 1, 16).unwrap().yes);
+    assert_eq!(next(&index, 1, 13).unwrap().slot, Some(26));
     // The walk of docs/FORMAT.md without slot 16, which cost 1 look and 3 codes.
     let found = ask_owned(&index, Way::BySkips, &[0, 1]).unwrap();
     assert_eq!(found.slots, [5, 12, 26, 30]);

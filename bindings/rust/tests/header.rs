@@ -143,7 +143,7 @@ fn the_declarations_are_those_of_the_header() {
     let header = header();
     let theirs: Vec<String> =
         header.split("\nuint32_t ").skip(1).map(|text| plain(text, ";")).map(|text| in_rust(&text)).collect();
-    assert_eq!(theirs.len(), 8);
+    assert_eq!(theirs.len(), 9);
     assert_eq!(ours, theirs);
 }
 

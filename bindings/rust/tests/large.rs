@@ -4,7 +4,7 @@
 mod common;
 
 use common::refused;
-use slots::{ask, ask_owned, count, index_of, lend, look, record, test, write, Refusal, Way};
+use slots::{ask, ask_owned, count, index_of, lend, look, next, record, test, write, Refusal, Way};
 
 /// The most slots that a rack may have.
 const MOST: u32 = 1_048_576;
@@ -65,6 +65,22 @@ fn a_gap_of_three_bytes_is_read_back() {
     assert!(test(&index, 0, MOST).unwrap().yes);
     assert!(!test(&index, 0, MOST - 1).unwrap().yes);
     assert_eq!(test(&index, 0, MOST + 1), refused(Refusal::Outside, 0));
+    assert_eq!(next(&index, 0, 2).unwrap().slot, Some(MOST));
+    assert_eq!(next(&index, 0, MOST).unwrap().slot, Some(MOST));
+    assert_eq!(next(&index, 0, MOST + 1), refused(Refusal::Outside, 0));
+}
+
+#[test]
+fn the_next_slot_is_told_across_the_longest_bits() {
+    // List 0 has its first and its last slot as bits, list 1 the first alone.
+    let records = [record(MOST, 1, MOST, &[1, MOST]).unwrap(), record(MOST, 1, MOST, &[1]).unwrap()];
+    let index = index_of(MOST, 1, &records).unwrap();
+    for (name, last) in [(0, Some(MOST)), (1, None)] {
+        assert_eq!(next(&index, name, 1).unwrap().slot, Some(1));
+        for slot in [2, 8, 9, MOST - 8, MOST - 7, MOST] {
+            assert_eq!(next(&index, name, slot).unwrap().slot, last, "list {name}, {slot}");
+        }
+    }
 }
 
 #[test]

@@ -1,4 +1,5 @@
-//! Testing, counting and lending: the calls about one list. What is expected stands in docs/FORMAT.md.
+//! Testing, counting and lending: the calls about one list, but for `next`, which has a file of its own.
+//! What is expected stands in docs/FORMAT.md.
 
 mod common;
 

@@ -6,7 +6,7 @@
 mod common;
 
 use common::{example, refused, spoilt, BLOCK, LIST_1, U};
-use slots::{ask, ask_owned, bound, close, look, record, test, write, Refusal, Refused, Way};
+use slots::{ask, ask_owned, bound, close, look, next, record, test, write, Refusal, Refused, Way};
 use std::error::Error;
 use std::fmt::Debug;
 
@@ -73,9 +73,12 @@ fn of_a_question() {
     let asked = ask_owned(&index, Way::BySkips, &[0, 1, 0, 9]);
     expect(asked, 11, 3, &format!("{list} (name at position 3)"));
     expect(test(&index, 2, 1), 11, 0, &format!("{list} (name at position 0)"));
+    expect(next(&index, 2, 1), 11, 0, &format!("{list} (name at position 0)"));
     let asked = ask(&index, Way::Plain, &[0, 1], &mut [0; 6]).map(|_| ());
     expect(asked, 12, 7, "the room is too small (room needed: 7)");
-    expect(test(&index, 0, 33), 16, 0, "the slot to be tested is not in 1..u");
+    let outside = "the slot asked about is not in 1..u";
+    expect(test(&index, 0, 33), 16, 0, outside);
+    expect(next(&index, 0, 33), 16, 0, outside);
 }
 
 #[test]

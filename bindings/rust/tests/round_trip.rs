@@ -6,7 +6,7 @@
 mod common;
 
 use common::{refused, Random};
-use slots::{ask, ask_owned, count, index_of, lend, look, record, test, Refusal, Way};
+use slots::{ask, ask_owned, count, index_of, lend, look, next, record, test, Refusal, Way};
 use std::collections::BTreeSet;
 
 /// An index, and what was put into it.
@@ -34,7 +34,8 @@ fn made(random: &mut Random) -> Made {
     Made { u, lists, records, index }
 }
 
-/// Each list by itself: its record, its count, and whether it holds some slots or not.
+/// Each list by itself: its record, its count, whether it holds some slots or not, and what comes next
+/// from them on.
 fn check_lists(random: &mut Random, made: &Made) {
     let Made { u, lists, records, index } = made;
     for (name, (list, record)) in (0..).zip(lists.iter().zip(records)) {
@@ -42,6 +43,7 @@ fn check_lists(random: &mut Random, made: &Made) {
         assert_eq!(count(index, name).unwrap().count as usize, list.len());
         for slot in (0..20).map(|_| random.between(1, *u)) {
             assert_eq!(test(index, name, slot).unwrap().yes, list.contains(&slot));
+            assert_eq!(next(index, name, slot).unwrap().slot, list.range(slot..).next().copied());
         }
     }
 }
@@ -119,5 +121,6 @@ fn damage_is_refused_or_leaves_an_index() {
         assert_eq!(count(&made.index, 0).map(|_| ()), looked);
         assert_eq!(lend(&made.index, 0).map(|_| ()), looked);
         assert_eq!(test(&made.index, 0, 1).map(|_| ()), looked);
+        assert_eq!(next(&made.index, 0, 1).map(|_| ()), looked);
     }
 }

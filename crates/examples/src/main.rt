@@ -10,11 +10,13 @@ use judged::looking;
 use judged::records;
 use queries::asking;
 use queries::lists;
+use queries::nexts;
 
 fn main() {
     looking::run();
     asking::run();
     lists::run();
+    nexts::run();
     searching::run();
     packed::run();
     records::run();

@@ -4,6 +4,7 @@ use mathlib.Core.Path.{_≡_, refl, sym, ap, _∙_}
 use mathlib.Core.Bool.{Bool, true, false}
 use mathlib.Core.List.{List, [], _∷_, _++_}
 use native.Mathlib.Decide.{ℕ-discrete}
+use native.Mathlib.Nat.{add-zero, zero-add}
 use native.Mathlib.Omega.{arith}
 use lib.Dec.{ltb, eqb}
 use lib.ListN.{length, length-append}
@@ -15,7 +16,7 @@ use Rattle.paper.specs.Record.{digit, bitAt, nextBit, unused, slotsToCut}
 use Rattle.laws.proofs.Lists.{up-join, keep-join}
 
 -- the slots up to the cut, and then those up to a greater one
-cut-on : (c k : ℕ) (bits : List ℕ) → slotsToCut (c + k) bits ≡ slotsToCut c bits ++ keep (bitAt bits) (upFrom (1 + c) k)
+pub cut-on : (c k : ℕ) (bits : List ℕ) → slotsToCut (c + k) bits ≡ slotsToCut c bits ++ keep (bitAt bits) (upFrom (1 + c) k)
 unfolding slotsToCut
 cut-on c k bits = ap (keep (bitAt bits)) (up-join 1 c k) ∙ keep-join (bitAt bits) (upFrom 1 c) (upFrom (1 + c) k)
 
@@ -39,11 +40,11 @@ one-more c bits =
 -- Of the k bits from x on, one that is set or none
 module _ (bits : List ℕ) where
   -- the first of them
-  next-hit : (x k : ℕ) → bitAt bits x ≡ true → nextBit bits x (suc k) ≡ x
+  pub next-hit : (x k : ℕ) → bitAt bits x ≡ true → nextBit bits x (suc k) ≡ x
   unfolding nextBit
   next-hit x k e = rw e
 
-  next-miss : (x k : ℕ) → bitAt bits x ≡ false → nextBit bits x (suc k) ≡ nextBit bits (x + 1) k
+  pub next-miss : (x k : ℕ) → bitAt bits x ≡ false → nextBit bits x (suc k) ≡ nextBit bits (x + 1) k
   unfolding nextBit
   next-miss x k e = rw e
 
@@ -65,6 +66,15 @@ module _ (bits : List ℕ) where
         | yes i ↦ rw (← i) e
         | no n ↦ r (sym (next-miss x k e) ∙ z) y (omega arith) (omega arith)
       ]
+
+  -- i bits that are not set are passed over
+  pub next-over : (i x k : ℕ) → ((y : ℕ) → x ≤ y → y < x + i → bitAt bits y ≡ false) → nextBit bits x (i + k) ≡ nextBit bits (x + i) k
+  next-over zero x k m = rw (zero-add, add-zero)
+  next-over (suc i) x k m =
+      let e : x + 1 + i ≡ x + suc i = omega arith in
+      let n : suc i + k ≡ suc (i + k) = omega arith in
+      rw n
+      (next-miss x (i + k) (m x (omega arith) (omega arith)) ∙ next-over i (x + 1) k (λ y u v. m y (omega arith) (omega arith)) ∙ rw e)
 
   -- one that is found is among them, and set
   pub next-found : (x k : ℕ) → 0 < nextBit bits x k → (x ≤ nextBit bits x k) × (nextBit bits x k < x + k) × (bitAt bits (nextBit bits x k) ≡ true)

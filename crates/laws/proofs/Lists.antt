@@ -1,16 +1,17 @@
--- Choice by a test, and the plain words on lists: where a number stands, what each number is, those that pass a test, numbers that rise by one, and the last.
+-- Choice by a test, and the plain words on lists: where a number stands, what each number is, those that pass a test, the first that is not below a number,
+-- numbers that rise by one, and the last.
 use Prim.Native.Nat.{ℕ, zero, suc, _+_, _≤_, _<_}
 use mathlib.Core.Path.{_≡_, refl, sym, ap, _∙_}
 use mathlib.Core.Bool.{Bool, true, false, _&&_, _||_, and-false, or-assoc, or-true, or-false, true≢false}
 use mathlib.Core.Logic.{_↔_}
 use mathlib.Core.List.{List, [], _∷_, _++_, map}
-use native.Mathlib.Decide.{ℕ-discrete}
+use native.Mathlib.Decide.{decLe, ℕ-discrete}
 use native.Mathlib.Nat.{add-zero, zero-add}
 use native.Mathlib.Omega.{arith}
 use lib.Dec.{eqb}
 use lib.ListN.{length, getD}
-use borrow.Author.Tests.{eq-eqb, ne-eqb}
-use Rattle.paper.specs.Lists.{pick, has, keep, upFrom, lastOf}
+use borrow.Author.Tests.{le-leb, lt-leb, eq-eqb, ne-eqb}
+use Rattle.paper.specs.Lists.{pick, has, keep, firstFrom, upFrom, lastOf}
 
 -- a choice between one thing and itself
 pub same-either : {A : Type 0} (t : Bool) (v : A) → pick t v v ≡ v
@@ -216,3 +217,32 @@ pub map-at : {A C : Type 0} (f : A → C) (xs : List A) (k : ℕ) (a : A) (c : C
 map-at f [] k a c l = absurd (omega arith)
 map-at f (x ∷ xs) zero a c l = refl
 map-at f (x ∷ xs) (suc k) a c l = map-at f xs k a c (omega arith)
+
+-- The first that is not below x, one element at a time: none
+pub first-none : (x : ℕ) → firstFrom x [] ≡ 0
+unfolding firstFrom
+first-none x = refl
+
+module _ (x y : ℕ) (ys : List ℕ) where
+  -- y is not below x
+  pub first-here : x ≤ y → firstFrom x (y ∷ ys) ≡ y
+  unfolding firstFrom
+  first-here l = simp (le-leb x y l)
+
+  -- it is
+  pub first-on : y < x → firstFrom x (y ∷ ys) ≡ firstFrom x ys
+  unfolding firstFrom
+  first-on l = simp (lt-leb x y l)
+
+-- in a list, or else in the one behind it: 0 is no slot
+pub first-joined : (x : ℕ) → 0 < x → (xs ys : List ℕ) → firstFrom x (xs ++ ys) ≡ pick (eqb (firstFrom x xs) 0) (firstFrom x ys) (firstFrom x xs)
+first-joined x p [] ys = rw (first-none x)
+first-joined x p (y ∷ xs) ys =
+    elim (decLe x y) [
+      | yes l ↦ let n : ¬ (y ≡ 0) = omega arith in rw (first-here x y (xs ++ ys) l, first-here x y xs l, ne-eqb y 0 n)
+      | no g ↦ let l : y < x = omega arith in rw (first-on x y (xs ++ ys) l, first-on x y xs l) (first-joined x p xs ys)
+    ]
+
+-- where the first list has none
+pub first-behind : (x : ℕ) → 0 < x → (xs ys : List ℕ) → firstFrom x xs ≡ 0 → firstFrom x (xs ++ ys) ≡ firstFrom x ys
+first-behind x p xs ys e = first-joined x p xs ys ∙ rw e

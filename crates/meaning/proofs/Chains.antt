@@ -1,15 +1,16 @@
--- A chain of sound blocks: how many slots, that they ascend, which block a slot can stand in, and that the blocks' first slots rise.
+-- A chain of sound blocks: how many slots, that they ascend, the next slot from one on, and that the blocks' first slots rise.
 use Prim.Native.Nat.{ℕ, zero, suc, _+_, _-_, _*_, _≤_, _<_, min}
 use mathlib.Core.Path.{_≡_, refl, ap, _∙_}
-use mathlib.Core.Bool.{false}
 use mathlib.Core.List.{List, [], _∷_, _++_, flatten}
 use native.Mathlib.Omega.{arith}
+use lib.Dec.{ltb, eqb}
 use lib.ListN.{length, getD, length-append}
-use Rattle.paper.specs.Lists.{has, lastOf}
+use borrow.Author.Tests.{lt-ltb, le-ltb}
+use Rattle.paper.specs.Lists.{pick, firstFrom, lastOf}
 use Rattle.paper.specs.Tail.{blockCount, firstSlot}
-use Rattle.laws.proofs.Lists.{has-none, has-front, has-behind}
+use Rattle.laws.proofs.Lists.{first-none, first-here, first-joined, first-behind}
 use Rattle.laws.proofs.Rounding.{rounds-ceil, rounds-left, behind-block}
-use Rattle.meaning.proofs.Rising.{Ascends, rise-join, last-most, has-after, stop-above}
+use Rattle.meaning.proofs.Rising.{Ascends, rise-join, last-most, first-after}
 use Rattle.meaning.proofs.Blocks.{BlockIs, Chain, codesRead, codes-count, codes-rise}
 
 -- block b of a list of blocks, and nothing past the last
@@ -87,29 +88,29 @@ module _ (u B L m n : ℕ) (es cs : List ℕ) (pos : 1 ≤ B) where
       let on = behind-block n B b in
       rw (slots-next, length-append) (omega arith)
 
-  -- a slot below the first block is in none of them
-  pub chain-before : (x : ℕ) (bl : List (List ℕ)) (b prev : ℕ) → From b prev bl → (b < m → x < firstSlot es b) → has x (flatten bl) ≡ false
-  chain-before x [] b prev c l = rw slots-none (has-none x)
-  chain-before x (xs ∷ bl) b prev c l =
-      let r = chain-rise (xs ∷ bl) b prev c in
+  -- from x on, where block b and those behind it begin no lower: the first slot of block b, where there is one
+  pub chain-next : (x : ℕ) (bl : List (List ℕ)) (b prev : ℕ) → From b prev bl → (b < m → x ≤ firstSlot es b)
+      → firstFrom x (flatten bl) ≡ pick (ltb b m) (firstSlot es b) 0
+  chain-next x [] b prev c l = rw (slots-none, le-ltb b m (omega arith)) (first-none x)
+  chain-next x (xs ∷ bl) b prev c l =
       let i = c .0 .is in
-      let a = rw (slots-next, i) at r in
-      rw (slots-next, i) (stop-above x (firstSlot es b) _ u (a .2) (l (c .0 .number)))
+      rw (slots-next, i, lt-ltb b m (c .0 .number)) (first-here x (firstSlot es b) _ (l (c .0 .number)))
 
-  -- and one from a block's first slot on, below the next block's, can only be in that block
-  pub chain-has : (x : ℕ) (bl : List (List ℕ)) (b prev i : ℕ) → From b prev bl → b + i < m → firstSlot es (b + i) ≤ x
-      → (b + i + 1 < m → x < firstSlot es (b + i + 1)) → has x (flatten bl) ≡ has x (blockAt bl i)
-  chain-has x [] b prev i c l f h = absurd (omega arith)
-  chain-has x (xs ∷ bl) b prev zero c l f h =
+  -- and where block b + i begins no higher than x, and the next block above it: that of block b + i, or else the first slot of the next block
+  pub chain-from : (x : ℕ) → 0 < x → (bl : List (List ℕ)) (b prev i : ℕ) → From b prev bl → b + i < m → firstSlot es (b + i) ≤ x
+      → (b + i + 1 < m → x ≤ firstSlot es (b + i + 1))
+      → firstFrom x (flatten bl) ≡ pick (eqb (firstFrom x (blockAt bl i)) 0) (pick (ltb (b + i + 1) m) (firstSlot es (b + i + 1)) 0) (firstFrom x (blockAt bl i))
+  chain-from x p [] b prev i c l f h = absurd (omega arith)
+  chain-from x p (xs ∷ bl) b prev zero c l f h =
       let e : b + 0 + 1 ≡ b + 1 = omega arith in
-      rw slots-next (has-front x xs (flatten bl) (chain-before x bl (b + 1) (lastOf prev xs) (c .2) (rw e at h)))
-  chain-has x (xs ∷ bl) b prev (suc i) c l f h =
+      rw (slots-next, e) (first-joined x p xs (flatten bl) ∙ rw (chain-next x bl (b + 1) (lastOf prev xs) (c .2) (rw e at h)))
+  chain-from x p (xs ∷ bl) b prev (suc i) c l f h =
       let e : b + suc i ≡ b + 1 + i = omega arith in
       let r = block-rise u B L m n es cs b xs (c .0) prev (c .1) in
       let a = chain-above bl (b + 1) (lastOf prev xs) i (c .2) (omega arith) in
       let f′ = rw e at f in
-      rw slots-next
-      (has-behind x xs (flatten bl) (has-after u prev x xs r (omega arith)) ∙ chain-has x bl (b + 1) (lastOf prev xs) i (c .2) (omega arith) f′ (rw e at h))
+      rw (slots-next, e)
+      (first-behind x p xs (flatten bl) (first-after u prev x xs r (omega arith)) ∙ chain-from x p bl (b + 1) (lastOf prev xs) i (c .2) (omega arith) f′ (rw e at h))
 
   -- a block begins with its first slot, and ends below the next block's
   chain-gap : (bl : List (List ℕ)) (b prev i : ℕ) → From b prev bl → b + i + 1 < m → lastOf 0 (blockAt bl i) < firstSlot es (b + i + 1)

@@ -1,12 +1,16 @@
--- Strictly ascending lists of slots, and where a slot stands in one.
+-- Strictly ascending lists of slots, where a slot stands in one, and the first slot that is not below another.
 use Prim.Native.Nat.{ℕ, zero, suc, _+_, _≤_, _<_}
-use mathlib.Core.Path.{_≡_, sym, _∙_}
+use mathlib.Core.Path.{_≡_, sym, ap, _∙_}
 use mathlib.Core.Bool.{true, false}
 use mathlib.Core.List.{List, [], _∷_, _++_}
+use native.Mathlib.Decide.{decLe, ℕ-discrete}
 use native.Mathlib.Omega.{arith}
+use lib.Dec.{eqb}
 use lib.ListN.{length, getD, take, drop}
-use Rattle.paper.specs.Lists.{has, lastOf}
-use Rattle.laws.proofs.Lists.{has-none, has-here, has-there}
+use borrow.Author.Tests.{eq-eqb, ne-eqb}
+use Rattle.paper.specs.Lists.{has, firstFrom, lastOf}
+use Rattle.laws.proofs.Lists.{In, has-none, has-here, has-there, first-none, first-here, first-on}
+use Rattle.laws.proofs.Lists.In.{here, there}
 use Rattle.laws.proofs.Parts.{front}
 
 -- each slot is above the one before it, the first above prev, and none above u
@@ -72,6 +76,11 @@ module _ (u : ℕ) where
   rise-length p [] h a = omega arith
   rise-length p (x ∷ xs) h a = let r = rise-length x xs (a .1) (a .2) in omega arith
 
+-- each of them is above p and within u
+pub in-rising : (u p x : ℕ) (xs : List ℕ) → Ascends u p xs → In x xs → (p < x) × (x ≤ u)
+in-rising u p x (y ∷ ys) a (here e) = rw e (a .0, a .1)
+in-rising u p x (y ∷ ys) a (there i) = let t = in-rising u y x ys (a .2) i in (omega (arith, a .0), t .1)
+
 -- what is not above the start, or is above the end, is not in the list
 pub has-low : (u p x : ℕ) (xs : List ℕ) → Ascends u p xs → x ≤ p → has x xs ≡ false
 has-low u p x [] a h = has-none x
@@ -81,11 +90,6 @@ has-low u p x (y ∷ ys) a h = has-there x y ys (omega arith) ∙ has-low u y x 
 pub has-high : (u p x : ℕ) (xs : List ℕ) → Ascends u p xs → u < x → has x xs ≡ false
 has-high u p x [] a h = has-none x
 has-high u p x (y ∷ ys) a h = has-there x y ys (omega arith) ∙ has-high u y x ys (a .2) h
-
--- one above the last slot
-pub has-after : (u p x : ℕ) (xs : List ℕ) → Ascends u p xs → lastOf p xs < x → has x xs ≡ false
-has-after u p x [] a h = has-none x
-has-after u p x (y ∷ ys) a h = let m = last-most u y ys (a .2) in has-there x y ys (omega arith) ∙ has-after u y x ys (a .2) h
 
 -- A search in an ascending list may stop at the first slot that is not below x
 module _ (x y : ℕ) (ys : List ℕ) where
@@ -100,3 +104,28 @@ module _ (x y : ℕ) (ys : List ℕ) where
   -- a slot below x: x can only stand behind it
   pub pass-below : y < x → has x (y ∷ ys) ≡ has x ys
   pass-below h = has-there x y ys (omega arith)
+
+-- The first slot that is not below x: there is none where x is above u
+pub first-high : (u p x : ℕ) (xs : List ℕ) → Ascends u p xs → u < x → firstFrom x xs ≡ 0
+first-high u p x [] a h = first-none x
+first-high u p x (y ∷ ys) a h = first-on x y ys (omega arith) ∙ first-high u y x ys (a .2) h
+
+-- and none where x is above the last slot
+pub first-after : (u p x : ℕ) (xs : List ℕ) → Ascends u p xs → lastOf p xs < x → firstFrom x xs ≡ 0
+first-after u p x [] a h = first-none x
+first-after u p x (y ∷ ys) a h = let m = last-most u y ys (a .2) in first-on x y ys (omega arith) ∙ first-after u y x ys (a .2) h
+
+-- x stands in the list exactly where that slot is x itself
+pub first-has : (u p x : ℕ) (xs : List ℕ) → 0 < x → Ascends u p xs → has x xs ≡ eqb (firstFrom x xs) x
+first-has u p x [] l a = let n : ¬ (0 ≡ x) = omega arith in has-none x ∙ sym (ne-eqb 0 x n) ∙ ap (λ (s : ℕ). eqb s x) (sym (first-none x))
+first-has u p x (y ∷ ys) l a =
+    elim (decLe x y) [
+      | yes h ↦ stops h (ℕ-discrete y x) ∙ ap (λ (s : ℕ). eqb s x) (sym (first-here x y ys h))
+      | no g ↦
+          let h : y < x = omega arith in
+          pass-below x y ys h ∙ first-has u y x ys l (a .2) ∙ ap (λ (s : ℕ). eqb s x) (sym (first-on x y ys h))
+    ]
+  where
+    stops : x ≤ y → Dec (y ≡ x) → has x (y ∷ ys) ≡ eqb y x
+    stops h (yes e) = stop-at x y ys e ∙ sym (eq-eqb y x e)
+    stops h (no n) = stop-above x y ys u (a .2) (omega arith) ∙ sym (ne-eqb y x n)

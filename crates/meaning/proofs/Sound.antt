@@ -1,24 +1,24 @@
--- An accepted record: its parts make it up, its slots ascend, there are as many as it counts, and where each of them is found.
+-- An accepted record: its parts make it up, its slots ascend, there are as many as it counts, where each of them is found, and the next one from a slot on.
 use Prim.Native.Nat.{ℕ, zero, suc, _+_, _-_, _*_, _≤_, _<_, min}
 use mathlib.Core.Path.{_≡_, refl, sym, ap, _∙_}
-use mathlib.Core.Bool.{false}
 use mathlib.Core.List.{List, _∷_, flatten}
 use native.Mathlib.Decide.{ℕ-discrete}
 use native.Mathlib.Nat.{zero-add}
 use native.Mathlib.Omega.{arith}
 use lib.ListN.{length, getD, drop, length-append}
-use Rattle.paper.specs.Lists.{has, lastOf}
+use Rattle.paper.specs.Lists.{has, firstFrom, lastOf}
 use Rattle.paper.specs.Tail.{Tail, blockCount, firstSlot, offsetOf, readBlocks, readTail}
-use Rattle.paper.specs.Record.{cutOf, tailCount, codeLength, bitLength, bitsOf, behindBits, entriesOf, codesOf, bitAt, slotsToCut, tailIn, tailOf, fault17, recordFault}
-use Rattle.paper.specs.Held.{contents, countOf, entryOf}
-use Rattle.laws.proofs.Lists.{has-front, has-behind}
+use Rattle.paper.specs.Record.{cutOf, tailCount, codeLength, bitLength, bitsOf, behindBits, entriesOf, codesOf, bitAt, nextBit, slotsToCut, tailIn, tailOf, fault17, recordFault}
+use Rattle.paper.specs.Held.{contents, countOf, listed, entryOf}
+use Rattle.paper.specs.Walk.{orBehind}
+use Rattle.laws.proofs.Lists.{has-front, has-behind, first-joined, first-behind}
 use Rattle.laws.proofs.Rounding.{rounds-ceil, rounds-left}
 use Rattle.laws.proofs.Tails.{tail-offset, tail-blocks}
 use Rattle.laws.proofs.Records.{Fits, Unset, fits-6, unset-17}
-use Rattle.meaning.proofs.Rising.{Ascends, rise-higher, rise-lower, rise-join, last-within, has-low, has-high}
-use Rattle.meaning.proofs.Bits.{bits-rise, bits-has}
+use Rattle.meaning.proofs.Rising.{Ascends, rise-higher, rise-lower, rise-join, last-within, has-low, has-high, first-high}
+use Rattle.meaning.proofs.Bits.{bits-rise, bits-has, bits-first}
 use Rattle.meaning.proofs.Blocks.{blockEnd, codesRead, BlockIs, Chain, blocks-sound}
-use Rattle.meaning.proofs.Chains.{blockAt, block-count, chain-length, chain-rise, chain-block, chain-above, chain-count, chain-before, chain-has, chain-first}
+use Rattle.meaning.proofs.Chains.{blockAt, block-count, chain-length, chain-rise, chain-block, chain-above, chain-count, chain-next, chain-from, chain-first}
 
 -- The parts of a record: m, the number of its blocks; their entries; the code bytes
 abbrev pub blocksOf : ℕ → List ℕ → ℕ
@@ -209,26 +209,33 @@ module _ (u B : ℕ) (r : List ℕ) (pos : 1 ≤ B) (ok : recordFault u B (lengt
     unfolding contents
     has-tail h = has-behind x (slotsToCut (cutOf r) (bitsOf r)) _ (has-high (cutOf r) 0 x _ (bits-rise (cutOf r) (bitsOf r)) h)
 
-    -- where there is no block, and below the first one, there is none
-    pub has-no-block : cutOf r < x → blocksOf B r ≡ 0 → has x (contents u B r) ≡ false
-    has-no-block h z = has-tail h ∙ chain-before u B _ _ _ _ _ pos x (tailOf u B r .blocks) 0 (cutOf r) tail-chain (λ l. absurd (omega arith))
+  -- The next slot from x on
+  module _ (x : ℕ) (some : 0 < x) where
+    -- up to the cut that of the next set bit, and where the bits run out the first slot of block 0
+    pub next-bits : x ≤ cutOf r → firstFrom x (contents u B r) ≡ orBehind (listed u B r) 0 (nextBit (bitsOf r) x (cutOf r + 1 - x))
+    unfolding contents listed entryOf orBehind
+    next-bits h =
+        let first = chain-next u B _ _ _ _ _ pos x (tailOf u B r .blocks) 0 (cutOf r) tail-chain (λ l. let a = first-above 0 l in omega arith) in
+        first-joined x some (slotsToCut (cutOf r) (bitsOf r)) _ ∙ rw (bits-first (cutOf r) (bitsOf r) x some h, first)
 
-    -- below the first slot of block 0
-    pub has-before : cutOf r < x → x < firstSlot (skipsOf B r) 0 → has x (contents u B r) ≡ false
-    has-before h g = has-tail h ∙ chain-before u B _ _ _ _ _ pos x (tailOf u B r .blocks) 0 (cutOf r) tail-chain (λ l. g)
+    module _ (above : cutOf r < x) where
+      -- above the cut, in the tail alone
+      next-tail : firstFrom x (contents u B r) ≡ firstFrom x (flatten (tailOf u B r .blocks))
+      unfolding contents
+      next-tail = first-behind x some (slotsToCut (cutOf r) (bitsOf r)) _ (first-high (cutOf r) 0 x _ (bits-rise (cutOf r) (bitsOf r)) above)
 
-    -- from the first slot of the last block on, that block tells; and so does a block whose first slot is not above x where the next one's is
-    module _ (b : ℕ) (f : firstSlot (skipsOf B r) b ≤ x) where
-      -- the last block
-      pub has-last : b + 1 ≡ blocksOf B r → has x (contents u B r) ≡ has x (blockAt (tailOf u B r .blocks) b)
-      has-last e =
-          let a = first-above b (omega arith) in
-          has-tail (omega arith)
-          ∙ chain-has u B _ _ _ _ _ pos x (tailOf u B r .blocks) 0 (cutOf r) b tail-chain (omega arith) (rw zero-add f) (λ l. absurd (omega arith))
+      -- before block 0 it is the first slot of that block
+      pub next-before : (0 < blocksOf B r → x < firstSlot (skipsOf B r) 0) → firstFrom x (contents u B r) ≡ orBehind (listed u B r) 0 0
+      unfolding listed entryOf orBehind
+      next-before g = next-tail ∙ chain-next u B _ _ _ _ _ pos x (tailOf u B r .blocks) 0 (cutOf r) tail-chain (λ l. let a = g l in omega arith)
 
-      -- a block that is not the last
-      pub has-inner : b + 1 < blocksOf B r → x < firstSlot (skipsOf B r) (b + 1) → has x (contents u B r) ≡ has x (blockAt (tailOf u B r .blocks) b)
-      has-inner l g =
-          let a = first-above b (omega arith) in
-          has-tail (omega arith)
-          ∙ chain-has u B _ _ _ _ _ pos x (tailOf u B r .blocks) 0 (cutOf r) b tail-chain (omega arith) (rw zero-add f) (λ l. rw zero-add g)
+      -- from the first slot of block b on, below that of the next block: the one in block b, and where it runs out the first slot of the next
+      pub next-in : (b : ℕ) → b < blocksOf B r → firstSlot (skipsOf B r) b ≤ x → (b + 1 < blocksOf B r → x < firstSlot (skipsOf B r) (b + 1))
+          → firstFrom x (contents u B r) ≡ orBehind (listed u B r) (suc b) (firstFrom x (blockAt (tailOf u B r .blocks) b))
+      unfolding listed entryOf orBehind
+      next-in b l f g =
+          let e : b + 1 ≡ suc b = omega arith in
+          next-tail
+          ∙ rw (zero-add, e) at
+          (chain-from u B _ _ _ _ _ pos x some (tailOf u B r .blocks) 0 (cutOf r) b tail-chain (omega arith) (rw zero-add f)
+          (λ l. rw zero-add (let a = g (omega arith) in omega arith)))

@@ -1,4 +1,4 @@
-// One name of a question whose index is accepted: its record, a part of the index; its slots gathered; the candidates taken through its list
+// One name of an accepted index: its record, a part of the index. Of a question: its slots gathered; the candidates taken through its list
 // by either way. And the counts of all names.
 ghost use mathlib.Core.Path.{_≡_};
 ghost use mathlib.Core.List.{map};
@@ -23,7 +23,7 @@ use skips::Walked;
 use skips::walk;
 
 // The record of one name, a part of the index.
-fn record_of(index: &[u8], name: u32) -> &[u8]
+pub fn record_of(index: &[u8], name: u32) -> &[u8]
     requires { ⌜ (look (now index) .number ≡ 0) × (name < kOf (now index)) ⌝ }
     ensures { λ r. ⌜ now r ≡ recordOf (now (index .entry)) name ⌝ }
 {

@@ -6,7 +6,7 @@ use lib.ListN.{replicate}
 use Rattle.paper.specs.Refusal.{verdict}
 use Rattle.paper.specs.Look.{MeetsLook}
 use Rattle.paper.specs.Ask.{MeetsAsk}
-use Rattle.paper.specs.OneList.{MeetsTest, MeetsCount, MeetsLend, MeetsPart}
+use Rattle.paper.specs.OneList.{MeetsTest, MeetsNext, MeetsCount, MeetsLend, MeetsPart}
 use Rattle.paper.specs.Write.{MeetsWrite}
 use Rattle.paper.specs.Reserve.{MeetsBound}
 use Rattle.paper.specs.Close.{MeetsClose}
@@ -23,6 +23,7 @@ pub record Met : Type 0 where
   pub look : MeetsLook index (verdict 0 0)
   pub ask : MeetsAsk index 1 (0 ∷ 1 ∷ []) (room 8) t1 (5 ∷ 12 ∷ 16 ∷ 26 ∷ 30 ∷ 0 ∷ 0 ∷ 0 ∷ [])
   pub test : MeetsTest index 0 30 (record { number = 0; place = 0; yes = true })
+  pub next : MeetsNext index 0 9 (record { number = 0; place = 0; slot = 12 })
   pub count : MeetsCount index 1 (record { number = 0; place = 0; count = 7 })
   pub lend : MeetsLend index 1 list1
   pub part : MeetsPart index 1 (record { number = 0; place = 0; start = 55; length = 24 })
@@ -37,6 +38,7 @@ met =
       look = refl;
       ask = record { answers = refl; leaves = refl };
       test = refl;
+      next = refl;
       count = refl;
       lend = refl;
       part = refl;

@@ -16,6 +16,7 @@ use Rattle.paper.proofs.Rows.Row.{
   looking,
   asking,
   testing,
+  following,
   counting,
   lending,
   writing,
@@ -196,9 +197,9 @@ search-rows =
     (326, searching own 40 0 40 40 (1 ∷ 2 ∷ 4 ∷ 8 ∷ 16 ∷ 32 ∷ 36 ∷ 38 ∷ 39 ∷ 40 ∷ [])) ∷
     (327, searching own 40 5 5 5 (6 ∷ [])) ∷
     (328, searching own 40 40 40 40 []) ∷
-    (331, trying 32 4 list0 0 (7 ∷ []) (0 ∷ []) (1 ∷ []) (2 ∷ []) (3 ∷ [])) ∷
-    (332, trying 32 4 list0 0 (8 ∷ 18 ∷ []) (1 ∷ 1 ∷ []) (2 ∷ 3 ∷ []) (4 ∷ 2 ∷ []) (0 ∷ 0 ∷ [])) ∷
-    (333, trying 32 4 list1 0 (5 ∷ 17 ∷ 25 ∷ 30 ∷ []) (1 ∷ 0 ∷ 0 ∷ 1 ∷ []) (0 ∷ 0 ∷ 0 ∷ 1 ∷ []) (0 ∷ 1 ∷ 1 ∷ 1 ∷ []) (0 ∷ 0 ∷ 0 ∷ 1 ∷ [])) ∷
+    (331, trying 32 4 list0 0 (7 ∷ []) (8 ∷ []) (1 ∷ []) (2 ∷ []) (3 ∷ [])) ∷
+    (332, trying 32 4 list0 0 (8 ∷ 18 ∷ []) (8 ∷ 18 ∷ []) (2 ∷ 3 ∷ []) (4 ∷ 2 ∷ []) (0 ∷ 0 ∷ [])) ∷
+    (333, trying 32 4 list1 0 (5 ∷ 17 ∷ 25 ∷ 30 ∷ []) (5 ∷ 26 ∷ 26 ∷ 30 ∷ []) (0 ∷ 0 ∷ 0 ∷ 1 ∷ []) (0 ∷ 1 ∷ 1 ∷ 1 ∷ []) (0 ∷ 0 ∷ 0 ∷ 1 ∷ [])) ∷
     []
 
 -- Questions
@@ -383,13 +384,44 @@ bounding-rows =
     (824, bounding 4294967295 4294967295 4294967295 4294967295 (4 ∷ 0 ∷ 0 ∷ [])) ∷
     []
 
+-- [Order 8] The next slot, x itself counting: in the tail of list 0, where a block and the last block run out too; in list 1 up to the cut, between it and the
+-- first block, and behind; where the bits run out before a block and before none; an empty list; then 16, 11 before it, and the index before both; and slots
+-- tried one after the other, the finger staying where the search ended
+unfoldable pub next-rows : List (ℕ × Row)
+next-rows =
+    (901, following index 0 1 (0 ∷ 0 ∷ 1 ∷ [])) ∷
+    (902, following index 0 5 (0 ∷ 0 ∷ 5 ∷ [])) ∷
+    (903, following index 0 7 (0 ∷ 0 ∷ 8 ∷ [])) ∷
+    (904, following index 0 9 (0 ∷ 0 ∷ 12 ∷ [])) ∷
+    (905, following index 0 31 (0 ∷ 0 ∷ 0 ∷ [])) ∷
+    (906, following index 1 1 (0 ∷ 0 ∷ 3 ∷ [])) ∷
+    (907, following index 1 6 (0 ∷ 0 ∷ 12 ∷ [])) ∷
+    (908, following index 1 16 (0 ∷ 0 ∷ 16 ∷ [])) ∷
+    (909, following index 1 17 (0 ∷ 0 ∷ 26 ∷ [])) ∷
+    (910, following index 1 27 (0 ∷ 0 ∷ 30 ∷ [])) ∷
+    (911, following index 1 32 (0 ∷ 0 ∷ 0 ∷ [])) ∷
+    (912, following (with 68 0) 1 6 (0 ∷ 0 ∷ 26 ∷ [])) ∷
+    (913, following tailless 1 6 (0 ∷ 0 ∷ 0 ∷ [])) ∷
+    (914, following (bare 32 4) 0 1 (0 ∷ 0 ∷ 0 ∷ [])) ∷
+    (915, following index 0 0 (16 ∷ 0 ∷ 0 ∷ [])) ∷
+    (916, following index 0 33 (16 ∷ 0 ∷ 0 ∷ [])) ∷
+    (917, following index 2 0 (11 ∷ 0 ∷ 0 ∷ [])) ∷
+    (918, following (with 54 0x81) 2 0 (8 ∷ 0 ∷ 0 ∷ [])) ∷
+    (919, following rubbish 0 3 (17 ∷ 1 ∷ 0 ∷ [])) ∷
+    (921, trying 32 4 list0 0 (7 ∷ 8 ∷ 9 ∷ 17 ∷ 31 ∷ []) (8 ∷ 8 ∷ 12 ∷ 18 ∷ 0 ∷ []) (1 ∷ 2 ∷ 2 ∷ 2 ∷ 4 ∷ []) (2 ∷ 2 ∷ 1 ∷ 1 ∷ 2 ∷ []) (3 ∷ 0 ∷ 1 ∷ 3 ∷ 2 ∷ [])) ∷
+    (922, trying 32 4 list1 1 (1 ∷ 6 ∷ 13 ∷ 31 ∷ []) (3 ∷ 12 ∷ 16 ∷ 31 ∷ []) (1 ∷ 1 ∷ 1 ∷ 1 ∷ []) (0 ∷ 0 ∷ 0 ∷ 0 ∷ []) (0 ∷ 0 ∷ 0 ∷ 2 ∷ [])) ∷
+    (923, trying 32 4 (set list1 13 0) 0 (6 ∷ 17 ∷ []) (26 ∷ 26 ∷ []) (0 ∷ 0 ∷ []) (0 ∷ 1 ∷ []) (0 ∷ 0 ∷ [])) ∷
+    (924, trying 32 2 (encode 2 16 (1 ∷ 2 ∷ 5 ∷ [])) 0 (6 ∷ 17 ∷ []) (0 ∷ 0 ∷ []) (0 ∷ 0 ∷ []) (0 ∷ 0 ∷ []) (0 ∷ 0 ∷ [])) ∷
+    (925, trying 32 2 (encode 2 0 (3 ∷ 11 ∷ 12 ∷ [])) 0 (1 ∷ 2 ∷ 3 ∷ 4 ∷ 12 ∷ 13 ∷ []) (3 ∷ 3 ∷ 3 ∷ 11 ∷ 12 ∷ 0 ∷ []) (0 ∷ 0 ∷ 1 ∷ 1 ∷ 2 ∷ 2 ∷ []) (1 ∷ 1 ∷ 2 ∷ 1 ∷ 1 ∷ 0 ∷ []) (0 ∷ 0 ∷ 0 ∷ 1 ∷ 0 ∷ 0 ∷ [])) ∷
+    []
+
 -- The one table. Its groups are computed apart, so that the check of a faulty definition names the rows that fail
 unfoldable pub readings : List (ℕ × Row)
-readings = paper-rows ++ (looking-rows ++ (search-rows ++ (asking-rows ++ (writing-rows ++ (program-rows ++ (file-rows ++ (unused-rows ++ (rubbish-rows ++ (costing-rows ++ bounding-rows)))))))))
+readings = paper-rows ++ (looking-rows ++ (search-rows ++ (asking-rows ++ (writing-rows ++ (program-rows ++ (file-rows ++ (unused-rows ++ (rubbish-rows ++ (costing-rows ++ (bounding-rows ++ next-rows))))))))))
 
 -- all that a claim on one of its rows opens
 unfoldable pub all-rows : ℕ
-unfolding readings paper-rows looking-rows search-rows asking-rows writing-rows program-rows file-rows unused-rows rubbish-rows costing-rows bounding-rows
+unfolding readings paper-rows looking-rows search-rows asking-rows writing-rows program-rows file-rows unused-rows rubbish-rows costing-rows bounding-rows next-rows
 all-rows = 0
 
 paper-hold : failing paper-rows ≡ []
@@ -436,6 +468,10 @@ bounding-hold : failing bounding-rows ≡ []
 unfolding opened judged bounding-rows
 bounding-hold = refl
 
+next-hold : failing next-rows ≡ []
+unfolding opened judged next-rows
+next-hold = refl
+
 -- every row holds
 pub readings-hold : failing readings ≡ []
 unfolding readings
@@ -449,4 +485,5 @@ readings-hold =
     (joined file-rows _ file-hold
     (joined unused-rows _ unused-hold
     (joined rubbish-rows _ rubbish-hold
-    (joined costing-rows bounding-rows costing-hold bounding-hold)))))))))
+    (joined costing-rows _ costing-hold
+    (joined bounding-rows next-rows bounding-hold next-hold))))))))))

@@ -15,7 +15,7 @@ use Rattle.paper.specs.Look.{look}
 use Rattle.paper.specs.Search.{searched}
 use Rattle.paper.specs.Walk.{Try, tried}
 use Rattle.paper.specs.Ask.{askAnswer, askSlice}
-use Rattle.paper.specs.OneList.{testAnswer, countAnswer, partAnswer, lent}
+use Rattle.paper.specs.OneList.{testAnswer, nextAnswer, countAnswer, partAnswer, lent}
 use Rattle.paper.specs.Write.{writeAnswer, writeBuffer}
 use Rattle.paper.specs.Reserve.{boundAnswer}
 use Rattle.paper.specs.Close.{closeAnswer, closeBuffer}
@@ -31,6 +31,8 @@ pub data Row : Type 0 where
   asking : (index : List ℕ) (way : ℕ) (names before answer looks codes after : List ℕ) → Row
   -- an index, a name, a slot: number place yes
   testing : (index : List ℕ) (name slot : ℕ) (answer : List ℕ) → Row
+  -- an index, a name, a slot: number place next
+  following : (index : List ℕ) (name slot : ℕ) (answer : List ℕ) → Row
   -- an index, a name: number place count
   counting : (index : List ℕ) (name : ℕ) (answer : List ℕ) → Row
   -- an index, a name: number place start length, and the lent bytes
@@ -55,8 +57,8 @@ pub data Row : Type 0 where
   checking : (u B : ℕ) (bytes : List ℕ) (number : ℕ) → Row
   -- entries s(0) .. s(m), the finger, the slot: j, and the positions looked at in their order
   searching : (s : ℕ → ℕ) (m finger x j : ℕ) (seen : List ℕ) → Row
-  -- a record with u and B, a finger and slots tried one after the other: found, the finger then, looks and codes of each
-  trying : (u B : ℕ) (bytes : List ℕ) (finger : ℕ) (slots found fingers looks codes : List ℕ) → Row
+  -- a record with u and B, a finger and slots tried one after the other: the next slot, the finger then, looks and codes of each
+  trying : (u B : ℕ) (bytes : List ℕ) (finger : ℕ) (slots nexts fingers looks codes : List ℕ) → Row
 
 -- a lent slice or buffer of n places that hold rubbish
 abbrev pub room : ℕ → List ℕ
@@ -83,6 +85,7 @@ holds (asking index way names before answer looks codes after) =
     same (a .number ∷ a .place ∷ a .count ∷ a .looks ∷ a .codes ∷ []) answer && same (a .looks16) (sixteen looks) && same (a .codes16) (sixteen codes)
     && same (askSlice index way names before) after
 holds (testing index name slot answer) = let a = testAnswer index name slot in same (a .number ∷ a .place ∷ bitOf (a .yes) ∷ []) answer
+holds (following index name slot answer) = let a = nextAnswer index name slot in same (a .number ∷ a .place ∷ a .slot ∷ []) answer
 holds (counting index name answer) = let a = countAnswer index name in same (a .number ∷ a .place ∷ a .count ∷ []) answer
 holds (lending index name answer bytes) =
     let a = partAnswer index name in
@@ -101,9 +104,9 @@ holds (coding value bytes) = same (codeBytes value) bytes && onCode (codeOf byte
 holds (uncoding bytes) = same (onCode (codeOf bytes) [] λ v r. v ∷ []) []
 holds (checking u B bytes number) = eqb (recordFault u B (length bytes) bytes) number
 holds (searching s m finger x j seen) = let t = searched s x m finger in eqb (t .j) j && same (t .seen) seen
-holds (trying u B bytes finger slots found fingers looks codes) =
+holds (trying u B bytes finger slots nexts fingers looks codes) =
     let ts = tries (listed u B bytes) finger slots in
-    same (map (λ (t : Try). bitOf (t .found)) ts) found && same (map (λ (t : Try). t .finger) ts) fingers
+    same (map (λ (t : Try). t .slot) ts) nexts && same (map (λ (t : Try). t .finger) ts) fingers
     && same (map (λ (t : Try). t .looks) ts) looks && same (map (λ (t : Try). t .codes) ts) codes
 
 -- the labels of the rows that fail

@@ -3,7 +3,7 @@ use Prim.Native.Nat.{ℕ, zero, suc, _+_}
 use mathlib.Core.Bool.{Bool, true, false, _&&_, _||_}
 use mathlib.Core.List.{List, [], _∷_, _++_}
 use lib.ListN.{length, drop}
-use lib.Dec.{eqb}
+use lib.Dec.{leb, eqb}
 
 -- a where the test passes, else b. A branch that may be long, or that goes by numbers not yet checked, is bound by a `let` first
 abbrev pub pick : {A : Type 0} → Bool → A → A → A
@@ -35,6 +35,11 @@ keep t (x ∷ xs) = let rest = keep t xs in pick (t x) (x ∷ rest) rest
 unfoldable pub leading : (ℕ → Bool) → List ℕ → ℕ
 leading t [] = 0
 leading t (x ∷ xs) = pick (t x) (1 + leading t xs) 0
+
+-- the first of them that is not below x; 0: there is none
+unfoldable pub firstFrom : ℕ → List ℕ → ℕ
+firstFrom x [] = 0
+firstFrom x (y ∷ ys) = let behind = firstFrom x ys in pick (leb x y) y behind
 
 -- k numbers that rise by one: x, x + 1 ..
 unfoldable pub upFrom : ℕ → ℕ → List ℕ

@@ -1,15 +1,16 @@
--- [Numbers of refusal] Operations on one list of an index: testing a slot, counting, lending the record.
+-- [Numbers of refusal] Operations on one list of an index: testing a slot, telling the next one, counting, lending the record.
 use Prim.Native.Nat.{ℕ, _+_, _-_}
 use mathlib.Core.Path.{_≡_}
 use mathlib.Core.Bool.{false}
 use mathlib.Core.List.{List, [], _∷_}
-use Rattle.paper.specs.Lists.{has}
+use Rattle.paper.specs.Lists.{has, firstFrom}
 use Rattle.paper.specs.Held.{countOf}
 use Rattle.paper.specs.Refusal.{accepted, ifAccepted, orElse, fault11, fault16}
 use Rattle.paper.specs.Index.{uOf, kOf, startOf, recordOf, held}
 use Rattle.paper.specs.Look.{look}
 use Rattle.paper.specs.declared.Verdict.{Verdict}
 use Rattle.paper.specs.declared.Tested.{Tested}
+use Rattle.paper.specs.declared.Next.{Next}
 use Rattle.paper.specs.declared.Counted.{Counted}
 use Rattle.paper.specs.declared.Part.{Part}
 
@@ -27,6 +28,13 @@ testAnswer index name x =
     let v = testFault index name x in
     let holds = has x (held index name) in
     record { number = v .number; place = v .place; yes = ifAccepted v holds false }
+
+-- [Order 8] Telling the next one: refused as testing is. A list's slots ascend, so the first that is not below x is the least; 0: there is none
+unfoldable pub nextAnswer : List ℕ → ℕ → ℕ → Next
+nextAnswer index name x =
+    let v = testFault index name x in
+    let slot = firstFrom x (held index name) in
+    record { number = v .number; place = v .place; slot = ifAccepted v slot 0 }
 
 -- Counting: a good name is answered with the size of its list
 unfoldable pub countAnswer : List ℕ → ℕ → Counted
@@ -47,9 +55,12 @@ partAnswer index name =
     let size = startOf index (name + 1) - from in
     record { number = v .number; place = v .place; start = ifAccepted v from 0; length = ifAccepted v size 0 }
 
--- the promises of testing, counting, lending, and telling where the lent part lies
+-- the promises of testing, telling the next slot, counting, lending, and telling where the lent part lies
 abbrev pub MeetsTest : List ℕ → ℕ → ℕ → Tested → Type 0
 MeetsTest index name slot answer = answer ≡ testAnswer index name slot
+
+abbrev pub MeetsNext : List ℕ → ℕ → ℕ → Next → Type 0
+MeetsNext index name slot answer = answer ≡ nextAnswer index name slot
 
 abbrev pub MeetsCount : List ℕ → ℕ → Counted → Type 0
 MeetsCount index name answer = answer ≡ countAnswer index name

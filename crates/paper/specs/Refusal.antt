@@ -104,6 +104,6 @@ fault14 way rest = pick (ltb 1 way) (verdict 14 0) rest
 unfoldable pub fault15 : ℕ → ℕ → Verdict → Verdict
 fault15 u cut rest = pick (ltb u cut) (verdict 15 0) rest
 
--- 16, of a slot to be tested
+-- 16, of a slot that is tested, or from which the next one is asked
 unfoldable pub fault16 : ℕ → ℕ → Verdict → Verdict
 fault16 u x rest = within 1 u x (verdict 16 0) rest

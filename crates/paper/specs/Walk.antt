@@ -1,11 +1,11 @@
--- [The question and its search] Candidates tried in one list after the other: which are kept, and what that costs in looks and codes.
-use Prim.Native.Nat.{ℕ, zero, suc, _+_}
-use mathlib.Core.Bool.{Bool}
+-- [The question and its search; order 8] The next slot of a list from a slot on, and candidates tried in one list after the other: which are kept, and
+-- what that costs in looks and codes.
+use Prim.Native.Nat.{ℕ, zero, suc, _+_, _-_}
 use mathlib.Core.List.{List, [], _∷_}
 use lib.ListN.{getD}
-use lib.Dec.{leb, eqb}
+use lib.Dec.{leb, ltb, eqb}
 use Rattle.paper.specs.Lists.{pick}
-use Rattle.paper.specs.Record.{bitAt}
+use Rattle.paper.specs.Record.{nextBit}
 use Rattle.paper.specs.Held.{Listed, entryOf}
 use Rattle.paper.specs.Search.{searched, looksOf}
 
@@ -37,20 +37,29 @@ unfoldable pub seekIn : List (List ℕ) → ℕ → ℕ → Seek
 seekIn blocks x zero = seekBlock x []
 seekIn blocks x (suc b) = seekBlock x (getD blocks b [])
 
--- One candidate x, tried in one list with the finger at p
+-- [Order 8] the slot s; where it is 0, since the bits or block j ran out or j is 0, the first slot of the block behind j, which costs
+-- nothing; 0: there is no such block
+unfoldable pub orBehind : Listed → ℕ → ℕ → ℕ
+orBehind l j s =
+    let first = pick (ltb j (l .m)) (entryOf (l .cut) (l .entries) (suc j)) 0 in
+    pick (eqb s 0) first s
+
+-- One slot x, sought in one list with the finger at p: the next slot (0: there is none), which in a sound list is its least that is not below x; and
+-- what it took to get there. x is found where the next slot is x itself
 pub record Try : Type 0 where
-  pub found : Bool
+  pub slot : ℕ
   pub finger : ℕ
   pub looks : ℕ
   pub codes : ℕ
 
--- up to the cut: the bit, with no search, and the finger stays. Above it: the search, whose j is the finger from then on, and block j
+-- up to the cut: the bits from x on, with no search, and the finger stays. Above it: the search, whose j is the finger from then on, and block j
 unfoldable pub tried : Listed → ℕ → ℕ → Try
 tried l p x =
     let t = searched (entryOf (l .cut) (l .entries)) x (l .m) p in
     let b = seekIn (l .blocks) x (t .j) in
-    let sought : Try = record { found = eqb (b .slot) x; finger = t .j; looks = looksOf t; codes = b .codes } in
-    let tested : Try = record { found = bitAt (l .bits) x; finger = p; looks = 0; codes = 0 } in
+    let sought : Try = record { slot = orBehind l (t .j) (b .slot); finger = t .j; looks = looksOf t; codes = b .codes } in
+    let near = nextBit (l .bits) x (l .cut + 1 - x) in
+    let tested : Try = record { slot = orBehind l 0 near; finger = p; looks = 0; codes = 0 } in
     pick (leb x (l .cut)) tested sought
 
 -- The walk of all candidates through one list
@@ -59,9 +68,9 @@ pub record Walk : Type 0 where
   pub looks : ℕ
   pub codes : ℕ
 
--- candidate x, tried with t, and then the walk w of the others
+-- candidate x, tried with t, and then the walk w of the others: x is kept where it is found
 abbrev pub tally : ℕ → Try → Walk → Walk
-tally x t w = record { kept = pick (t .found) (x ∷ w .kept) (w .kept); looks = t .looks + w .looks; codes = t .codes + w .codes }
+tally x t w = record { kept = pick (eqb (t .slot) x) (x ∷ w .kept) (w .kept); looks = t .looks + w .looks; codes = t .codes + w .codes }
 
 -- in ascending order, from finger p on
 unfoldable pub walkList : Listed → ℕ → List ℕ → Walk

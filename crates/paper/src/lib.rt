@@ -26,6 +26,13 @@ pub struct Tested {
     pub yes: bool,
 }
 
+// The next slot of a list, from some slot on; 0 where there is none.
+pub struct Next {
+    pub number: u32,
+    pub place: u32,
+    pub slot: u32,
+}
+
 pub struct Counted {
     pub number: u32,
     pub place: u32,

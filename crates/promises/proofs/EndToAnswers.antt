@@ -1,7 +1,7 @@
--- What is answered from the index of some lists, by their slots: questions, tests, counts and lent records; and that two indexes of the same slots
--- answer alike.
+-- What is answered from the index of some lists, by their slots: questions, tests, next slots, counts and lent records; and that two indexes of the
+-- same slots answer alike.
 use Prim.Native.Nat.{ℕ, zero, suc, _≤_, _<_}
-use mathlib.Core.Path.{_≡_, refl, sym, ap, _∙_}
+use mathlib.Core.Path.{_≡_, refl, sym, ap, subst, _∙_}
 use mathlib.Core.Bool.{true, true≢false}
 use mathlib.Core.Logic.{_↔_}
 use mathlib.Core.List.{List, [], _∷_, map}
@@ -14,19 +14,19 @@ use Rattle.paper.specs.Index.{kOf, recordOf, held}
 use Rattle.paper.specs.Look.{look}
 use Rattle.paper.specs.Question.{smallest}
 use Rattle.paper.specs.Ask.{named, roomNeeded, askFault, askAnswer, MeetsAsk}
-use Rattle.paper.specs.OneList.{testAnswer, countAnswer, lent}
+use Rattle.paper.specs.OneList.{testAnswer, nextAnswer, countAnswer, lent}
 use Rattle.paper.specs.declared.Verdict.{Verdict}
 use Rattle.paper.specs.declared.Answer.{Answer}
 use Rattle.laws.proofs.Lists.{In, has-in, in-at, Each, each-at, each-in, has-place}
-use Rattle.laws.proofs.Lists.In.{here, there}
 use Rattle.laws.proofs.Links.{twelve}
 use Rattle.laws.proofs.Questions.{Good, good-on}
-use Rattle.meaning.proofs.Rising.{Ascends}
+use Rattle.meaning.proofs.Rising.{Ascends, in-rising}
 use Rattle.promises.proofs.IndexRows.{Inside, NameAccepted}
 use Rattle.promises.proofs.IndexReads.{well-u, well-k}
 use Rattle.promises.proofs.AcceptedLists.{list-count}
+use Rattle.promises.proofs.NextSlots.{NextOf}
 use Rattle.promises.proofs.OperationNumbers.{name-table, test-table}
-use Rattle.promises.proofs.OperationAnswers.{test-says, test-refusal, count-says, count-refusal, lent-record, lend-refusal}
+use Rattle.promises.proofs.OperationAnswers.{test-says, test-refusal, next-says, count-says, count-refusal, lent-record, lend-refusal}
 use Rattle.promises.proofs.QuestionNumbers.{passed, fault-is, smallest-name, smallest-place, need-is, need-least}
 use Rattle.promises.proofs.QuestionSlots.{ask-exactly, ask-rise, tells-slots}
 use Rattle.promises.proofs.EndToRuns.{Plan, recordFor, allSlots, slotsOf, Allowed}
@@ -36,11 +36,6 @@ use Rattle.promises.proofs.EndToIndex.{Holding}
 each-of : (P : ℕ → Type 0) (xs : List ℕ) → ((i : ℕ) → i < length xs → P (getD xs i 0)) → Each P xs
 each-of P [] h = tt
 each-of P (x ∷ xs) h = (h 0 (omega arith), each-of P xs (λ i l. h (suc i) (omega arith)))
-
--- a slot of a list that rises above p and up to u lies there
-in-rising : (u p x : ℕ) (xs : List ℕ) → Ascends u p xs → In x xs → (p < x) × (x ≤ u)
-in-rising u p x (y ∷ ys) a (here e) = rw e (a .0, a .1)
-in-rising u p x (y ∷ ys) a (there i) = let t = in-rising u y x ys (a .2) i in (omega (arith, a .0), t .1)
 
 -- past the last list there are no slots
 slots-past : (plans : List Plan) (j : ℕ) → length plans ≤ j → slotsOf plans j ≡ []
@@ -128,7 +123,7 @@ module _ {u B : ℕ} {plans : List Plan} {bs : List ℕ} (h : Holding u B plans 
       pub asked-rise : Ascends u 0 (take (answer .count) after)
       asked-rise = rw (tells-slots bs way names before answer after m asked-number, ← h .u-is) (ask-rise bs way names before asked-number)
 
-  -- TESTS, COUNTS AND LENT RECORDS
+  -- TESTS, NEXT SLOTS, COUNTS AND LENT RECORDS
   module _ (name : ℕ) where
     name-accepted : name < length plans → NameAccepted bs name
     name-accepted l = record { well = h .well; below = rw (← well-k bs (h .well), h .k-is) l }
@@ -193,3 +188,14 @@ module _ {u B : ℕ} {plans : List Plan} {bs : List ℕ} (h : Holding u B plans 
                     let z = test-number .1 (l, in-rising u 0 slot (slotsOf plans name) (slots-rise u plans (h .rising) name) i) in
                     test-says bs name slot z .1 (rw (h .held-is name l) i)
               ]
+
+      -- [Order 8] telling the next slot is accepted for the same
+      pub next-number : (nextAnswer bs name slot .number ≡ 0) ↔ ((name < length plans) × Inside 1 u slot)
+      unfolding nextAnswer testAnswer
+      next-number = test-number
+
+      -- and tells the next one that the list was written from
+      pub next-is : nextAnswer bs name slot .number ≡ 0 → NextOf (λ z. In z (slotsOf plans name)) slot (nextAnswer bs name slot .slot)
+      unfolding nextAnswer testAnswer
+      next-is z =
+          subst (λ (xs : List ℕ). NextOf (λ z. In z xs) slot (nextAnswer bs name slot .slot)) (h .held-is name (test-number .0 z .0)) (next-says bs name slot z)

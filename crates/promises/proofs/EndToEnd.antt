@@ -2,7 +2,7 @@
 -- the slots that were given. Every statement has a name and its meaning in plain words; the line behind it is its proof, which cites other files. What
 -- a list to be packed is (`Plan`), the calls that write them (`Wrote`, `startsBy`, `totalBy`), and the conditions (`Packable`, `Allowed`) are in EndToRuns;
 -- `slotsOf plans j` there are the slots of list j. Beside these a reader needs, of crate paper, the promises of the calls: MeetsWrite, MeetsClose, MeetsAsk,
--- MeetsTest, MeetsCount and MeetsLend. Of an answer nothing is known but that it keeps its promise: so what is said here holds of every program that keeps
+-- MeetsTest, MeetsNext, MeetsCount and MeetsLend. `NextOf`, the next one of some slots, is in NextSlots. Of an answer nothing is known but that it keeps its promise: so what is said here holds of every program that keeps
 -- them. `Each P xs`: P holds of each of xs. `In x xs`: x is one of the list xs. `Ascends u p xs`: xs rises strictly, above p and up to u. `startsFrom a rs`:
 -- where the records rs start that lie one behind the other from position a on.
 use Prim.Native.Nat.{ℕ, _+_, _*_, _≤_, _<_}
@@ -15,11 +15,12 @@ use Rattle.paper.specs.Refusal.{verdict}
 use Rattle.paper.specs.Index.{uOf, blockLength, kOf, held}
 use Rattle.paper.specs.Look.{look}
 use Rattle.paper.specs.Ask.{MeetsAsk}
-use Rattle.paper.specs.OneList.{MeetsTest, MeetsCount, MeetsLend}
+use Rattle.paper.specs.OneList.{MeetsTest, MeetsNext, MeetsCount, MeetsLend}
 use Rattle.paper.specs.Close.{MeetsClose}
 use Rattle.paper.specs.declared.Written.{Written}
 use Rattle.paper.specs.declared.Answer.{Answer}
 use Rattle.paper.specs.declared.Tested.{Tested}
+use Rattle.paper.specs.declared.Next.{Next}
 use Rattle.paper.specs.declared.Counted.{Counted}
 use Rattle.paper.proofs.Hex.{index}
 use Rattle.laws.proofs.Lists.{In, Each}
@@ -27,6 +28,7 @@ use Rattle.meaning.proofs.Rising.{Ascends}
 use Rattle.promises.proofs.IndexRows.{Inside, startsFrom}
 use Rattle.promises.proofs.Questions.{indexOf}
 use Rattle.promises.proofs.QuestionSlots.{tells-room, tells-behind, tells-length}
+use Rattle.promises.proofs.NextSlots.{NextOf}
 use Rattle.promises.proofs.EndToRuns.{Plan, recordFor, sizeFor, allSlots, slotsOf, Wrote, startsBy, totalBy, Packable, Allowed}
 use Rattle.promises.proofs.EndToWrites as writes
 use Rattle.promises.proofs.EndToIndex as indexes
@@ -188,6 +190,18 @@ pub tests-tell : TestsTell
 tests-tell u B plans before c told written w closed after m name slot answer n =
     let h = indexes.index-holding u B plans before c told written w closed after m in
     rw n (answers.test-number h name slot, answers.test-is h name slot)
+
+-- [Order 8] Telling the next slot is accepted as a test is. What is told is the next slot of the list, from the one asked from on.
+abbrev pub NextsTell : Type 0
+NextsTell =
+    OfIndexes λ u B plans bs.
+    (name slot : ℕ) (answer : Next) → MeetsNext bs name slot answer
+    → ((answer .number ≡ 0) ↔ ((name < length plans) × Inside 1 u slot)) × (answer .number ≡ 0 → NextOf (λ z. In z (slotsOf plans name)) slot (answer .slot))
+
+pub nexts-tell : NextsTell
+nexts-tell u B plans before c told written w closed after m name slot answer n =
+    let h = indexes.index-holding u B plans before c told written w closed after m in
+    rw n (answers.next-number h name slot, answers.next-is h name slot)
 
 -- A count is accepted exactly for a list that there is. It is how many slots the list has.
 abbrev pub CountsTell : Type 0

@@ -141,7 +141,7 @@ pub record NameAccepted (bs : List ℕ) (name : ℕ) : Type 0 where
   pub well : WellFormed bs
   pub below : name < well .trailer .k
 
--- A TEST OF A SLOT is refused: as counting is, or with 16 where the slot lies outside 1..u
+-- A TEST OF A SLOT, and telling the next one from a slot on, is refused: as counting is, or with 16 where the slot lies outside 1..u
 pub data TestRefused (bs : List ℕ) (name slot : ℕ) : ℕ → ℕ → Type 0 where
   named : {f p : ℕ} → NameRefused bs name f p → TestRefused bs name slot f p
   outside : (a : NameAccepted bs name) → Outside 1 (a .well .trailer .u) slot → TestRefused bs name slot 16 0

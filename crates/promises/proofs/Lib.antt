@@ -1,4 +1,4 @@
--- The promises: Promises, Questions, Searching, Positions, Writing, Reserving, Closing, EndToEnd and Lines state them; RecordRows, IndexRows, AskRows, WriteRows, ReserveRows and
+-- The promises: Promises, Following, Questions, Searching, Positions, Writing, Reserving, Closing, EndToEnd and Lines state them; RecordRows, IndexRows, AskRows, WriteRows, ReserveRows and
 -- CloseRows say the table's rows, EndToRuns the conditions from end to end, and LineTexts what a text spells; the other files prove.
 pub mod Promises
 pub mod RecordRows
@@ -25,9 +25,12 @@ pub mod Seventeen
 pub mod AcceptedLists
 pub mod OperationNumbers
 pub mod OperationAnswers
+pub mod NextSlots
 pub mod UselessPrograms
 pub mod UselessAnswers
 pub mod ExampleRows
+pub mod Following
+pub mod NextAnswers
 pub mod Questions
 pub mod AskRows
 pub mod QuestionNumbers
@@ -38,6 +41,7 @@ pub mod Searching
 pub mod SearchDoubling
 pub mod SearchLooks
 pub mod SearchFinds
+pub mod FoundOrNot
 pub mod BinaryDigits
 pub mod SearchCost
 pub mod WalkCost

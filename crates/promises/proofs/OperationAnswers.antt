@@ -1,4 +1,4 @@
--- The answers of the operations on one list: what an accepted test, count and lent record say, and what a refusing answer holds.
+-- The answers of the operations on one list: what an accepted test, next slot, count and lent record say, and what a refusing answer holds.
 use Prim.Native.Nat.{ℕ, _+_, _≤_}
 use mathlib.Core.Path.{_≡_, refl, sym, ap, _∙_}
 use mathlib.Core.Bool.{true, false}
@@ -8,17 +8,18 @@ use native.Mathlib.Decide.{ℕ-discrete}
 use native.Mathlib.Omega.{arith}
 use lib.ListN.{length, getD, take, drop}
 use borrow.Author.Tests.{eq-eqb, ne-eqb}
-use Rattle.paper.specs.Index.{startOf, recordOf, held}
-use Rattle.paper.specs.OneList.{nameFault, testFault, testAnswer, countAnswer, lent, partAnswer}
+use Rattle.paper.specs.Index.{uOf, startOf, recordOf, held}
+use Rattle.paper.specs.OneList.{nameFault, testFault, testAnswer, nextAnswer, countAnswer, lent, partAnswer}
 use Rattle.paper.specs.declared.Verdict.{Verdict}
 use Rattle.laws.proofs.Lists.{In, has-exactly}
 use Rattle.laws.proofs.Parts.{AllBytes, length-part}
 use Rattle.laws.proofs.Frames.{start-apart, start-within}
-use Rattle.laws.proofs.Names.{named}
+use Rattle.laws.proofs.Names.{named, placed}
 use Rattle.promises.proofs.RecordRows.{Holds}
 use Rattle.promises.proofs.IndexRows.{NameAccepted, TestAccepted, Counts}
 use Rattle.promises.proofs.IndexRecords.{record-is, start-is}
-use Rattle.promises.proofs.AcceptedLists.{list-count, well-holds, well-counts}
+use Rattle.promises.proofs.AcceptedLists.{list-rise, list-count, well-holds, well-counts}
+use Rattle.promises.proofs.NextSlots.{NextOf, next-same, first-next}
 use Rattle.promises.proofs.OperationNumbers.{name-passes, test-passes}
 
 module _ (bs : List ℕ) (name : ℕ) where
@@ -43,6 +44,26 @@ module _ (bs : List ℕ) (name : ℕ) where
   pub test-refusal : (slot : ℕ) → ¬ (testAnswer bs name slot .number ≡ 0) → testAnswer bs name slot .yes ≡ false
   unfolding testAnswer
   test-refusal slot n = rw (ne-eqb (testFault bs name slot .number) 0 n)
+
+  -- [Order 8] Telling the next slot: accepted, it is the next one held
+  pub next-says : (slot : ℕ) → testFault bs name slot .number ≡ 0 → NextOf (λ z. In z (held bs name)) slot (nextAnswer bs name slot .slot)
+  unfolding nextAnswer
+  next-says slot ok =
+      let w = placed bs name slot ok in
+      rw (eq-eqb (testFault bs name slot .number) 0 ok)
+      (first-next (uOf bs) 0 slot (held bs name) (w .low) (list-rise bs (w .name-is .looked) name (w .name-is .below)))
+
+  -- and so, the next one that the record that was written there holds
+  pub next-tells : AllBytes bs → (slot : ℕ) (a : TestAccepted bs name slot)
+      → NextOf (Holds (a .named .well .trailer .u) (a .named .well .trailer .B) (getD (a .named .well .records) name [])) slot (nextAnswer bs name slot .slot)
+  next-tells all slot a =
+      next-same _ _ (well-holds bs all (a .named .well) name (a .named .below)) slot _
+      (next-says slot (ap (λ (v : Verdict). v .number) (test-passes bs all name slot a)))
+
+  -- refused, it is 0
+  pub next-refusal : (slot : ℕ) → ¬ (testFault bs name slot .number ≡ 0) → nextAnswer bs name slot .slot ≡ 0
+  unfolding nextAnswer
+  next-refusal slot n = rw (ne-eqb (testFault bs name slot .number) 0 n)
 
   -- Counting: accepted, it says how many slots are held
   pub count-says : countAnswer bs name .number ≡ 0 → countAnswer bs name .count ≡ length (held bs name)

@@ -1,4 +1,4 @@
--- A name and a test of a slot: a number and a place are given exactly when the rows of the table say so.
+-- A name, and a slot that is tested or asked from: a number and a place are given exactly when the rows of the table say so.
 use Prim.Native.Nat.{ℕ}
 use mathlib.Core.Path.{_≡_, ap, _∙_}
 use mathlib.Core.Logic._⊎_.{inl, inr}

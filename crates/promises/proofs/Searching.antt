@@ -1,13 +1,15 @@
 -- WHAT IS PROMISED of the search by skips and of its cost. Every statement has a name and its meaning in plain words; the line behind it is its
 -- proof, which cites other files. Beside this file a reader needs, of crate paper, the search itself and what is searched (Search, Held,
 -- Walk, Question, Ask), and here the words that the statements are put in: SearchDoubling (doublings, lastGood, sees, GoodSoFar),
--- SearchLooks (Agree, Once), SearchFinds (entryAt), BinaryDigits (digits), WalkCost (searches, searchOf, lookedAt, walkedOver, allowance, allowed), SeekCodes (below,
+-- SearchLooks (Agree, Once), NextSlots (NextOf), SearchFinds (entryAt), FoundOrNot (foundWalk, foundCharges, Apart),
+-- BinaryDigits (digits), WalkCost (searches, searchOf, lookedAt, walkedOver, allowance, allowed), SeekCodes (below,
 -- blockOf, toRead, readOver), SkipCost (visits, searchesIn, seenIn, readIn, AtMost), AnswerCost (looksCharged, codesCharged, visitsOf), and for the
 -- order of the lists QuestionAlike (InOrder) and SkipOrder (sizes, visitsIn).
 use Prim.Native.Nat.{ℕ, suc, _+_, _-_, _*_, _^_, _≤_, _<_, min}
 use mathlib.Core.Path.{_≡_}
 use mathlib.Core.Logic.{_⊎_}
 use mathlib.Core.List.{List, [], _∷_, map}
+use lib.Dec.{eqb}
 use lib.ListN.{length, drop, replicate}
 use Rattle.paper.specs.Lists.{has, keep, total}
 use Rattle.paper.specs.Record.{recordFault}
@@ -17,16 +19,18 @@ use Rattle.paper.specs.Search.{at, saw, looksOf, mid, halved, searched}
 use Rattle.paper.specs.Walk.{seek, tried, walkList}
 use Rattle.paper.specs.Question.{Charge, positions, inOrder, smallest}
 use Rattle.paper.specs.Ask.{named, costs, askAnswer}
-use Rattle.laws.proofs.Lists.{In}
+use Rattle.laws.proofs.Lists.{In, Each}
 use Rattle.laws.proofs.Searches.{halve-one, halve-up, halve-down, search-from, search-below}
 use Rattle.meaning.proofs.Rising.{Ascends}
 use Rattle.meaning.proofs.Walking.{walk-keeps}
 use Rattle.meaning.proofs.Charging.{plain-costs}
 use Rattle.promises.proofs.QuestionAlike.{InOrder}
+use Rattle.promises.proofs.NextSlots.{NextOf}
 use Rattle.promises.proofs.SearchDoubling.{doublings, lastGood, sees, GoodSoFar, search-ends, search-past-m, search-fails}
 use Rattle.promises.proofs.SearchLooks.{Agree, Once, search-same, search-inside, search-once}
 use Rattle.promises.proofs.SearchFinds as finds
 use Rattle.promises.proofs.SearchFinds.{entryAt}
+use Rattle.promises.proofs.FoundOrNot.{Apart, foundWalk, foundCharges, walk-alike, charges-alike}
 use Rattle.promises.proofs.BinaryDigits.{digits, digits-none, digits-below, digits-from}
 use Rattle.promises.proofs.SearchCost.{search-cost}
 use Rattle.promises.proofs.WalkCost.{
@@ -151,17 +155,38 @@ SearchLeads =
 pub search-leads : SearchLeads
 search-leads = finds.search-leads
 
--- From there a candidate is found exactly when the list holds it: up to the cut by its bit, above it by block j.
+-- [Order 8] From there the next slot told is the next one that the list holds, from x on: by the bits and the first block, or by block j and the one behind
+-- it. Up to the cut any finger that is not past m will do.
+abbrev pub TriedNext : Type 0
+TriedNext =
+    OfSound λ u B r.
+    (x p : ℕ) → 0 < x → p ≤ listed u B r .m → (listed u B r .cut < x → entryAt (listed u B r) p ≤ x)
+    → NextOf (λ z. In z (contents u B r)) x (tried (listed u B r) p x .slot)
+
+pub tried-next : TriedNext
+tried-next = finds.tried-next
+
+-- [Order 8] That is all that a walk has to see to: the finger is not past m, and its entry is at most x, or the finger is 0.
+abbrev pub TriedNextFrom : Type 0
+TriedNextFrom =
+    OfSound λ u B r.
+    (x p : ℕ) → 0 < x → p ≤ listed u B r .m → (entryAt (listed u B r) p ≤ x) ⊎ (p ≡ 0)
+    → NextOf (λ z. In z (contents u B r)) x (tried (listed u B r) p x .slot)
+
+pub tried-next-from : TriedNextFrom
+tried-next-from u B r pos ok x p some l g = finds.tried-next u B r pos ok x p some l (finds.ready u B r pos ok x p g)
+
+-- So a candidate is found, being itself the next slot, exactly when the list holds it.
 abbrev pub TriedFinds : Type 0
 TriedFinds =
     OfSound λ u B r.
     (x p : ℕ) → 0 < x → p ≤ listed u B r .m → (listed u B r .cut < x → entryAt (listed u B r) p ≤ x)
-    → tried (listed u B r) p x .found ≡ has x (contents u B r)
+    → eqb (tried (listed u B r) p x .slot) x ≡ has x (contents u B r)
 
 pub tried-finds : TriedFinds
 tried-finds = finds.tried-finds
 
--- The finger: a bit test leaves it where it is, and a search leaves it at its j. (So in a sound list it is ready for every larger candidate.)
+-- The finger: up to the cut it stays where it is, and a search leaves it at its j, whichever block tells the next slot.
 abbrev pub FingerLeft : Type 0
 FingerLeft =
     (l : Listed) (x p : ℕ) → (x ≤ l .cut → tried l p x .finger ≡ p) × (l .cut < x → tried l p x .finger ≡ searchOf l p x .j)
@@ -169,12 +194,46 @@ FingerLeft =
 pub finger-left : FingerLeft
 finger-left = finds.finger-left
 
--- So a walk of rising candidates from finger 0 keeps those that the list holds, and no other.
+-- [Order 8] So in a sound list a finger that would do for x is left where it will do for every slot from x on.
+abbrev pub FingerReady : Type 0
+FingerReady =
+    OfSound λ u B r.
+    (x p : ℕ) → p ≤ listed u B r .m → (entryAt (listed u B r) p ≤ x) ⊎ (p ≡ 0)
+    → let q = tried (listed u B r) p x .finger in (q ≤ listed u B r .m) × ((y : ℕ) → x ≤ y → (entryAt (listed u B r) q ≤ y) ⊎ (q ≡ 0))
+
+pub finger-ready : FingerReady
+finger-ready = finds.finger-ready
+
+-- And so a walk of rising candidates from finger 0 keeps those that the list holds, and no other.
 abbrev pub WalkKeeps : Type 0
 WalkKeeps = OfSound λ u B r. (xs : List ℕ) → Ascends u 0 xs → walkList (listed u B r) 0 xs .kept ≡ keep (λ x. has x (contents u B r)) xs
 
 pub walk-kept : WalkKeeps
 walk-kept = walk-keeps
+
+-- of every question by skips that is accepted
+abbrev pub OfSkips : (List ℕ → List ℕ → ℕ → Type 0) → Type 0
+OfSkips P = (index names : List ℕ) (room : ℕ) → askAnswer index 1 names room .number ≡ 0 → P index names room
+
+-- AS THE PAPER TELLS IT. `foundWalk l p xs`, in FoundOrNot, is the walk in the paper's own words, which knows no next slot: a candidate up to the cut is a
+-- bit test, and one above it is found where the reading of block j stops at it.
+
+-- [Order 8] In a list whose first block, where there is one, begins above the cut, from any finger, a walk of slots keeps what that walk keeps, with its looks
+-- and its codes.
+abbrev pub WalkAsBefore : Type 0
+WalkAsBefore = (l : Listed) → Apart l → (p : ℕ) (xs : List ℕ) → Each (λ x. 0 < x) xs → walkList l p xs ≡ foundWalk l p xs
+
+pub walk-as-before : WalkAsBefore
+walk-as-before = walk-alike
+
+-- [Order 8] Sound lists are such, so every position of an accepted question by skips is charged the looks and the codes of those walks.
+abbrev pub ChargedAsBefore : Type 0
+ChargedAsBefore = OfSkips λ index names room. costs index 1 names ≡ foundCharges (uOf index) (blockLength index) (named index names)
+
+pub charged-as-before : ChargedAsBefore
+unfolding costs
+charged-as-before index names room ok =
+    charges-alike (uOf index) (blockLength index) (answer.some-B index names room ok) (named index names) (answer.sound index names room ok)
 
 -- CODES
 
@@ -252,10 +311,6 @@ pub walk-codes-few : WalkCodesFew
 walk-codes-few = walk-codes
 
 -- THE ANSWER
-
--- of every question by skips that is accepted
-abbrev pub OfSkips : (List ℕ → List ℕ → ℕ → Type 0) → Type 0
-OfSkips P = (index names : List ℕ) (room : ℕ) → askAnswer index 1 names room .number ≡ 0 → P index names room
 
 -- An accepted answer's looks and codes are the sums of what is charged to the positions.
 abbrev pub AnswerSums : Type 0

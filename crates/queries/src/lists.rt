@@ -71,7 +71,7 @@ fn damaged() {
 }
 
 // Writes the list of every seventh slot up to 196, with the cut that is given, behind the first `at` bytes, and tells where it ends.
-fn put_sevenths(room: &mut [u8], at: u32, cut: u32) -> u32 {
+pub fn put_sevenths(room: &mut [u8], at: u32, cut: u32) -> u32 {
     let mut sevenths = [0u32; 28];
     fill(&mut sevenths, 7);
     put_list(room, at, 196, 128, cut, &sevenths)

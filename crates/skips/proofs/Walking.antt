@@ -5,13 +5,14 @@ use mathlib.Core.Bool.{true, false}
 use mathlib.Core.List.{List, [], _∷_, _++_, append-assoc, append-nil}
 use native.Mathlib.Numerals.{add-one}
 use native.Mathlib.Omega.{arith}
+use lib.Dec.{eqb}
 use lib.ListN.{length, getD, take, drop, set, length-set}
 use lib.Seq.{take-suc-set, drop-set-lt, take-set-lt, slice, slice-cons, slice-empty}
 use Rattle.paper.specs.Held.{Listed}
-use Rattle.paper.specs.Walk.{Try, tried, walkList}
+use Rattle.paper.specs.Walk.{tried, walkList}
 use Rattle.record.specs.Front.{Candidates}
 use Rattle.search.specs.declared.Tried.{Tried}
-use Rattle.search.specs.Told.{asTry}
+use Rattle.search.specs.Told.{told}
 use Rattle.skips.specs.Walks.{Walks}
 
 -- Of n candidates in xs, i are tried, w of them kept at the front of s, with the finger at p from then on
@@ -45,11 +46,11 @@ begin l xs n c =
 
 -- a walk whose first candidate is found, and one whose first is not
 module _ (l : Listed) (p x : ℕ) (xs : List ℕ) where
-  found-first : tried l p x .found ≡ true → walkList l p (x ∷ xs) .kept ≡ x ∷ walkList l (tried l p x .finger) xs .kept
+  found-first : eqb (tried l p x .slot) x ≡ true → walkList l p (x ∷ xs) .kept ≡ x ∷ walkList l (tried l p x .finger) xs .kept
   unfolding walkList
   found-first e = rw e
 
-  lost-first : tried l p x .found ≡ false → walkList l p (x ∷ xs) .kept ≡ walkList l (tried l p x .finger) xs .kept
+  lost-first : eqb (tried l p x .slot) x ≡ false → walkList l p (x ∷ xs) .kept ≡ walkList l (tried l p x .finger) xs .kept
   unfolding walkList
   lost-first e = rw e
 
@@ -83,25 +84,25 @@ module _ (l : Listed) (xs : List ℕ) (n : ℕ) (s : List ℕ) (w i p looks code
     pub some : Candidates n xs → 0 < getD s i 0
     some c = rw same (c .some i less)
 
-    module _ (t : Tried) (e : asTry t ≡ tried l p (getD s i 0)) where
+    module _ (t : Tried) (e : t ≡ told (getD s i 0) (tried l p (getD s i 0))) where
       split : slice i n xs ≡ getD s i 0 ∷ slice (i + 1) n xs
       split = rw same firstₓ
 
       finger-is : t .finger ≡ tried l p (getD s i 0) .finger
-      finger-is = ap (λ (t : Try). t .finger) e
+      finger-is = ap (λ (t : Tried). t .finger) e
 
       looks-on : looks + t .looks + walkList l (t .finger) (slice (i + 1) n xs) .looks ≡ walkList l 0 (slice 0 n xs) .looks
       looks-on =
           let a = rw split at (h .all-looks) in
           let b = first-looks l p (getD s i 0) (slice (i + 1) n xs) in
-          let c : t .looks ≡ tried l p (getD s i 0) .looks = ap (λ (t : Try). t .looks) e in
+          let c : t .looks ≡ tried l p (getD s i 0) .looks = ap (λ (t : Tried). t .looks) e in
           rw finger-is (omega arith)
 
       codes-on : codes + t .codes + walkList l (t .finger) (slice (i + 1) n xs) .codes ≡ walkList l 0 (slice 0 n xs) .codes
       codes-on =
           let a = rw split at (h .all-codes) in
           let b = first-codes l p (getD s i 0) (slice (i + 1) n xs) in
-          let c : t .codes ≡ tried l p (getD s i 0) .codes = ap (λ (t : Try). t .codes) e in
+          let c : t .codes ≡ tried l p (getD s i 0) .codes = ap (λ (t : Tried). t .codes) e in
           rw finger-is (omega arith)
 
       module _ (fewL : t .looks < 4294967296) (fewC : t .codes < 4294967296) where
@@ -126,8 +127,8 @@ module _ (l : Listed) (xs : List ℕ) (n : ℕ) (s : List ℕ) (w i p looks code
               few-codes = omega arith;
             }
 
-        found-is : t .found ≡ tried l p (getD s i 0) .found
-        found-is = ap (λ (t : Try). t .found) e
+        found-is : t .found ≡ eqb (tried l p (getD s i 0) .slot) (getD s i 0)
+        found-is = ap (λ (t : Tried). t .found) e
 
         -- found: it is kept
         pub turn-found : t .found ≡ true → Head l xs n (set s w (getD s i 0)) (w + 1) (i + 1) (t .finger) (looks + t .looks) (codes + t .codes)

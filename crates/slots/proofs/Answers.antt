@@ -9,18 +9,18 @@ use native.Mathlib.Nat.{le-of-lt}
 use native.Mathlib.Omega.{arith}
 use lib.ListN.{length}
 use borrow.Author.Tests.{eq-eqb, ne-eqb}
-use Rattle.paper.specs.Lists.{has}
+use Rattle.paper.specs.Lists.{has, firstFrom}
 use Rattle.paper.specs.Bytes.{part, ceilDiv}
 use Rattle.paper.specs.Record.{cutOf, tailCount, recordFault}
 use Rattle.paper.specs.Held.{contents, countOf}
 use Rattle.paper.specs.Refusal.{verdict, accepted, fault16}
 use Rattle.paper.specs.Index.{uOf, blockLength, kOf, startOf, recordOf, held}
 use Rattle.paper.specs.Look.{frameFault, inLists, look}
-use Rattle.paper.specs.OneList.{nameFault, testFault, testAnswer, countAnswer, lent, partAnswer}
+use Rattle.paper.specs.OneList.{nameFault, testFault, testAnswer, nextAnswer, countAnswer, lent, partAnswer}
 use Rattle.paper.specs.declared.Verdict.{Verdict}
 use Rattle.paper.specs.declared.Part.{Part}
-use Rattle.laws.proofs.Frames.{within-passed, or-first, or-second, start-apart, start-within}
-use Rattle.laws.proofs.Names.{Named, named, name-below, name-past}
+use Rattle.laws.proofs.Frames.{or-first, or-second, start-apart, start-within}
+use Rattle.laws.proofs.Names.{Named, named, name-below, name-past, Placed, placed}
 use Rattle.laws.proofs.Links.{sixteen-small, sixteen-large, sixteen}
 use Rattle.names.proofs.Records as records
 
@@ -156,11 +156,6 @@ module _ (bs : List ℕ) (name : ℕ) where
       unfolding countAnswer
       count-refused = rw (number-is, place-is) (simp (ne-eqb _ _ n′))
 
-      -- and by testing
-      pub test-refused : (x : ℕ) → record { number = p .number; place = p .place; yes = false } ≡ testAnswer bs name x
-      unfolding testAnswer testFault
-      test-refused x = rw (number-is, place-is) (simp (ne-eqb _ _ n′))
-
     module _ (z : p .number ≡ 0) where
       -- where a part is told, the index is accepted
       pub part-looked : look bs .number ≡ 0
@@ -182,47 +177,80 @@ module _ (bs : List ℕ) (name : ℕ) where
         pub sum-small : cutOf r + tailCount r ≤ 1048576
         sum-small = records.sum-small bs part-looked name known r record-is
 
-        -- it has no fault
-        pub record-sound : (u B : ℕ) → u ≡ uOf bs → B ≡ blockLength bs → recordFault u B (length r) r ≡ 0
-        record-sound = records.record-sound bs part-looked name known r record-is
-
         -- counting
         pub count-told : (n : ℕ) → n ≡ countOf r → record { number = 0; place = 0; count = n } ≡ countAnswer bs name
         unfolding countAnswer
         count-told n e = rw (e, record-is, found z .name-is .is)
 
-      -- testing: f is the number that 16 gives
-      module _ (u x f : ℕ) (isU : u ≡ uOf bs) (isF : verdict f 0 ≡ fault16 u x accepted) where
-        fault-is : verdict f 0 ≡ testFault bs name x
-        unfolding testFault
-        fault-is = isF ∙ rw (found z .name-is .is, isU)
+-- a slot of a list: v is what was said of the name
+module _ (bs : List ℕ) (name x : ℕ) (v : Verdict) (is : v ≡ nameFault bs name) where
+  -- the index or the name is refused
+  pub name-refuses : ¬ (v .number ≡ 0) → v ≡ testFault bs name x
+  unfolding testFault
+  name-refuses n = rw (← is) (sym (or-first v _ n))
 
-        -- the slot is refused
-        pub slot-refused : ¬ (f ≡ 0) → record { number = f; place = 0; yes = false } ≡ testAnswer bs name x
-        unfolding testAnswer
-        slot-refused n = rw (← fault-is) (simp (ne-eqb _ _ n))
+  module _ (z : v .number ≡ 0) (u : ℕ) (isU : u ≡ uOf bs) where
+    so : (f : Verdict) → f ≡ fault16 (uOf bs) x accepted → f ≡ testFault bs name x
+    unfolding testFault
+    so f e = e ∙ rw (← is) (sym (or-second v _ z))
 
-        module _ (ok : f ≡ 0) where
-          -- it is not, and so not 0
-          pub slot-some : 0 < x
-          unfolding fault16
-          slot-some = within-passed 16 (λ e. omega arith) accepted 1 u x (passes (verdict f 0) _ isF ok) .0
+    -- slot 0
+    pub slot-small : x < 1 → verdict 16 0 ≡ testFault bs name x
+    slot-small l = so _ (sixteen-small accepted (uOf bs) x u isU l)
 
-          -- and the record tells
-          pub test-told : (B : ℕ) → B ≡ blockLength bs → (r : List ℕ) → r ≡ part bs (p .start) (p .start + p .length) → (t : Bool) → t ≡ has x (contents u B r)
-              → record { number = 0; place = 0; yes = t } ≡ testAnswer bs name x
-          unfolding testAnswer held
-          test-told B isB r isR t e = rw (e, isU, isB, record-is r isR, ← fault-is, ok)
+    module _ (g : 1 ≤ x) where
+      -- a slot above u
+      pub slot-large : u < x → verdict 16 0 ≡ testFault bs name x
+      slot-large l = so _ (sixteen-large accepted (uOf bs) x u isU g l)
 
--- 16: slot 0
-pub slot-small : (u x : ℕ) → x < 1 → verdict 16 0 ≡ fault16 u x accepted
-slot-small u x = sixteen-small accepted u x u refl
+      -- a slot in 1..u
+      pub slot-inside : x ≤ u → verdict 0 0 ≡ testFault bs name x
+      slot-inside l = so _ (sixteen accepted (uOf bs) x u isU g l _ refl)
 
-module _ (u x : ℕ) (g : 1 ≤ x) where
-  -- a slot above u
-  pub slot-large : u < x → verdict 16 0 ≡ fault16 u x accepted
-  slot-large = sixteen-large accepted u x u refl g
+-- all of these (le-of-lt: as above)
+pub ruleset slot-tests = (name-refuses, slot-small, slot-large, slot-inside, le-of-lt)
 
-  -- a slot in 1..u
-  pub slot-inside : x ≤ u → verdict 0 0 ≡ fault16 u x accepted
-  slot-inside l = sixteen accepted u x u refl g l _ refl
+-- v is what was said of the slot
+module _ (bs : List ℕ) (name x : ℕ) (v : Verdict) (is : v ≡ testFault bs name x) where
+  module _ (n : ¬ (v .number ≡ 0)) where
+    -- what refuses is told by testing
+    pub test-refused : record { number = v .number; place = v .place; yes = false } ≡ testAnswer bs name x
+    unfolding testAnswer
+    test-refused = rw (← is) (simp (ne-eqb _ _ n))
+
+    -- and by telling the next slot
+    pub next-refused : record { number = v .number; place = v .place; slot = 0 } ≡ nextAnswer bs name x
+    unfolding nextAnswer
+    next-refused = rw (← is) (simp (ne-eqb _ _ n))
+
+  module _ (z : v .number ≡ 0) where
+    good : Placed bs name x
+    good = placed bs name x (passes v _ is z)
+
+    -- the index is accepted
+    pub slot-looked : look bs .number ≡ 0
+    slot-looked = good .name-is .looked
+
+    -- the name is one of its lists
+    pub slot-known : name < kOf bs
+    slot-known = good .name-is .below
+
+    -- the slot is not 0
+    pub slot-some : 0 < x
+    slot-some = good .low
+
+    -- r is the record of the name
+    module _ (r : List ℕ) (isR : r ≡ recordOf bs name) (u B : ℕ) (isU : u ≡ uOf bs) (isB : B ≡ blockLength bs) where
+      -- it has no fault
+      pub slot-sound : recordFault u B (length r) r ≡ 0
+      slot-sound = records.record-sound bs slot-looked name slot-known r isR u B isU isB
+
+      -- and tells whether it holds the slot
+      pub test-told : (t : Bool) → t ≡ has x (contents u B r) → record { number = 0; place = 0; yes = t } ≡ testAnswer bs name x
+      unfolding testAnswer held
+      test-told t e = rw (e, isU, isB, isR, good .is)
+
+      -- and the next one
+      pub next-told : (y : ℕ) → y ≡ firstFrom x (contents u B r) → record { number = 0; place = 0; slot = y } ≡ nextAnswer bs name x
+      unfolding nextAnswer held
+      next-told y e = rw (e, isU, isB, isR, good .is)

@@ -3,11 +3,10 @@ ghost use mathlib.Core.Path.{_≡_};
 ghost use Prim.Native.Nat.{_+_, _≤_};
 ghost use lib.ListN.{length};
 ghost use Rattle.paper.specs.Bytes as bytes;
-ghost use Rattle.paper.specs.Refusal.{verdict, accepted, fault16};
 ghost use Rattle.paper.specs.Look.{MeetsLook};
 ghost use Rattle.paper.specs.Ask.{MeetsAsk};
 ghost use Rattle.paper.specs.Close.{MeetsClose};
-ghost use Rattle.paper.specs.OneList.{nameFault, MeetsTest, MeetsCount, MeetsLend, MeetsPart};
+ghost use Rattle.paper.specs.OneList.{nameFault, testFault, MeetsTest, MeetsNext, MeetsCount, MeetsLend, MeetsPart};
 ghost use Rattle.paper.specs.Write.{MeetsWrite};
 ghost use Rattle.paper.specs.Reserve.{MeetsBound};
 ghost use Rattle.slots.specs.Unmade.{unmade};
@@ -19,12 +18,14 @@ use frame::check_frame;
 use frame::check_lists;
 use frame::from_end;
 use frame::start_of;
+use names::record_of;
 use pack::check_write;
 use pack::lay_out;
 use pack::put_record;
 use paper::Answer;
 use paper::Bound;
 use paper::Counted;
+use paper::Next;
 use paper::Part;
 use paper::Tested;
 use paper::Verdict;
@@ -37,6 +38,7 @@ use record::count_record;
 use reserve::check_bound;
 use reserve::most_bytes;
 use search::holds;
+use search::next_from;
 
 // Looks at a whole index: 1 to 5, then its lists one after the other. The first fault found is the answer.
 pub fn look(index: &[u8]) -> Verdict
@@ -131,46 +133,74 @@ pub fn count(index: &[u8], name: u32) -> Counted
     }
 }
 
-// 16 of a slot, or 0 where it lies in 1..u.
-fn check_slot(slot: u32, u: u32) -> u32
-    ensures { λ r. ⌜ verdict r 0 ≡ fault16 u slot accepted ⌝ }
+// The index, 11 of one name, and then 16 of a slot.
+fn check_slot(index: &[u8], name: u32, slot: u32) -> Verdict
+    ensures { λ r. ⌜ r ≡ testFault (now (index .entry)) name slot ⌝ }
 {
+    let seen = check_name(index, name);
+    if seen.number != 0 {
+        return seen;
+    }
+    let u = from_end(index, 20);
     if slot < 1 {
-        return 16;
+        return Verdict {
+            number: 16,
+            place: 0,
+        };
     }
     if u < slot {
-        return 16;
+        return Verdict {
+            number: 16,
+            place: 0,
+        };
     }
-    0
+    Verdict {
+        number: 0,
+        place: 0,
+    }
 }
 
 // Tests whether one list holds a slot.
 pub fn test(index: &[u8], name: u32, slot: u32) -> Tested
     ensures { λ r. ⌜ MeetsTest (now (index .entry)) name slot r ⌝ }
 {
-    let found = part(index, name);
-    if found.number != 0 {
+    let seen = check_slot(index, name, slot);
+    if seen.number != 0 {
         return Tested {
-            number: found.number,
-            place: found.place,
+            number: seen.number,
+            place: seen.place,
             yes: false,
         };
     }
     let u = from_end(index, 20);
-    let number = check_slot(slot, u);
-    if number != 0 {
-        return Tested {
-            number,
-            place: 0,
-            yes: false,
-        };
-    }
     let block = from_end(index, 16);
-    let yes = holds(record_at(index, found), u, block, slot);
+    let yes = holds(record_of(index, name), u, block, slot);
     Tested {
         number: 0,
         place: 0,
         yes,
+    }
+}
+
+// Tells the next slot of one list: the least that is not below a slot, or 0 where the list has none.
+pub fn next(index: &[u8], name: u32, slot: u32) -> Next
+    ensures { λ r. ⌜ MeetsNext (now (index .entry)) name slot r ⌝ }
+{
+    let seen = check_slot(index, name, slot);
+    if seen.number != 0 {
+        return Next {
+            number: seen.number,
+            place: seen.place,
+            slot: 0,
+        };
+    }
+    let u = from_end(index, 20);
+    let block = from_end(index, 16);
+    let least = next_from(record_of(index, name), u, block, slot);
+    Next {
+        number: 0,
+        place: 0,
+        slot: least,
     }
 }
 

@@ -9,7 +9,7 @@ use lib.ListN.{length, getD, set, drop, drop-of-length-le}
 use lib.Seq.{sets, drop-cons}
 use Rattle.paper.specs.Look.{look, MeetsLook}
 use Rattle.paper.specs.Ask.{askAnswer, MeetsAsk}
-use Rattle.paper.specs.OneList.{testAnswer, countAnswer, partAnswer, MeetsTest, MeetsCount, MeetsPart}
+use Rattle.paper.specs.OneList.{testAnswer, nextAnswer, countAnswer, partAnswer, MeetsTest, MeetsNext, MeetsCount, MeetsPart}
 use Rattle.paper.specs.Write.{writeAnswer, MeetsWrite}
 use Rattle.paper.specs.Reserve.{boundAnswer, MeetsBound}
 use Rattle.paper.specs.Close.{closeAnswer, MeetsClose}
@@ -18,11 +18,12 @@ use Rattle.paper.specs.Question.{places}
 use Rattle.paper.specs.declared.Verdict.{Verdict}
 use Rattle.paper.specs.declared.Answer.{Answer}
 use Rattle.paper.specs.declared.Tested.{Tested}
+use Rattle.paper.specs.declared.Next.{Next}
 use Rattle.paper.specs.declared.Counted.{Counted}
 use Rattle.paper.specs.declared.Written.{Written}
 use Rattle.paper.specs.declared.Part.{Part}
 use Rattle.paper.specs.declared.Bound.{Bound}
-use Rattle.slots_c.specs.Exported.{verdictFields, answerFields, testedFields, countedFields, writtenFields, boundFields, lentFields, fitted, Hands, HandsLook, HandsAsk, HandsTest, HandsCount, HandsLend, HandsBound, HandsWrite, HandsClose}
+use Rattle.slots_c.specs.Exported.{verdictFields, answerFields, testedFields, nextFields, countedFields, writtenFields, boundFields, lentFields, fitted, Hands, HandsLook, HandsAsk, HandsTest, HandsNext, HandsCount, HandsLend, HandsBound, HandsWrite, HandsClose}
 
 -- a store behind the end changes nothing
 pub set-past : (l : List ℕ) (i v : ℕ) → length l ≤ i → l ≡ set l i v
@@ -107,6 +108,9 @@ module _ (index out out′ : List ℕ) where
         HandsTest index name slot out (a .number) out′
     test-handed slot b a is said put =
         handed (λ a. a .number) testedFields (testAnswer index name slot) a out out′ is (put ∙ ap (λ (n : ℕ). fitted (a .number ∷ a .place ∷ n ∷ []) out) said)
+
+    pub next-handed : (slot : ℕ) (a : Next) → MeetsNext index name slot a → out′ ≡ fitted (nextFields a) out → HandsNext index name slot out (a .number) out′
+    next-handed slot a = handed (λ a. a .number) nextFields (nextAnswer index name slot) a out out′
 
     pub count-handed : (a : Counted) → MeetsCount index name a → out′ ≡ fitted (countedFields a) out → HandsCount index name out (a .number) out′
     count-handed a = handed (λ a. a .number) countedFields (countAnswer index name) a out out′

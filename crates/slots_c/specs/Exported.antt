@@ -7,13 +7,14 @@ use lib.ListN.{length, take}
 use Rattle.paper.specs.Lists.{bitOf, onFront}
 use Rattle.paper.specs.Look.{look}
 use Rattle.paper.specs.Ask.{askAnswer, askSlice}
-use Rattle.paper.specs.OneList.{testAnswer, countAnswer, partAnswer}
+use Rattle.paper.specs.OneList.{testAnswer, nextAnswer, countAnswer, partAnswer}
 use Rattle.paper.specs.Write.{writeAnswer, writeBuffer}
 use Rattle.paper.specs.Reserve.{boundAnswer}
 use Rattle.paper.specs.Close.{closeAnswer, closeBuffer}
 use Rattle.paper.specs.declared.Verdict.{Verdict}
 use Rattle.paper.specs.declared.Answer.{Answer}
 use Rattle.paper.specs.declared.Tested.{Tested}
+use Rattle.paper.specs.declared.Next.{Next}
 use Rattle.paper.specs.declared.Counted.{Counted}
 use Rattle.paper.specs.declared.Written.{Written}
 use Rattle.paper.specs.declared.Part.{Part}
@@ -30,6 +31,9 @@ answerFields a = (a .number ∷ a .place ∷ a .count ∷ a .looks ∷ a .codes 
 -- yes is 1, no is 0
 abbrev pub testedFields : Tested → List ℕ
 testedFields a = a .number ∷ a .place ∷ bitOf (a .yes) ∷ []
+
+abbrev pub nextFields : Next → List ℕ
+nextFields a = a .number ∷ a .place ∷ a .slot ∷ []
 
 abbrev pub countedFields : Counted → List ℕ
 countedFields a = a .number ∷ a .place ∷ a .count ∷ []
@@ -60,6 +64,9 @@ HandsLook index out r out′ = let a = look index in Hands (a .number) (verdictF
 
 abbrev pub HandsTest : List ℕ → ℕ → ℕ → List ℕ → ℕ → List ℕ → Type 0
 HandsTest index name slot out r out′ = let a = testAnswer index name slot in Hands (a .number) (testedFields a) out r out′
+
+abbrev pub HandsNext : List ℕ → ℕ → ℕ → List ℕ → ℕ → List ℕ → Type 0
+HandsNext index name slot out r out′ = let a = nextAnswer index name slot in Hands (a .number) (nextFields a) out r out′
 
 abbrev pub HandsCount : List ℕ → ℕ → List ℕ → ℕ → List ℕ → Type 0
 HandsCount index name out r out′ = let a = countAnswer index name in Hands (a .number) (countedFields a) out r out′

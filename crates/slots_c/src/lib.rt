@@ -7,12 +7,13 @@ ghost use mathlib.Core.List.{_∷_, []};
 ghost use lib.ListN.{set};
 ghost use lib.Seq.{sets};
 ghost use Rattle.paper.specs.Lists.{bitOf};
-ghost use Rattle.slots_c.specs.Exported.{fitted, HandsLook, HandsAsk, HandsTest, HandsCount, HandsLend, HandsBound, HandsWrite, HandsClose};
+ghost use Rattle.slots_c.specs.Exported.{fitted, HandsLook, HandsAsk, HandsTest, HandsNext, HandsCount, HandsLend, HandsBound, HandsWrite, HandsClose};
 use slots::ask;
 use slots::bound;
 use slots::close;
 use slots::count;
 use slots::look;
+use slots::next;
 use slots::part;
 use slots::test;
 use slots::write;
@@ -98,6 +99,16 @@ pub extern "C" fn slots_test(index: &[u8], name: u32, slot: u32, out: &mut [u64]
     let tested = test(index, name, slot);
     put_three(out, tested.number, tested.place, bit(tested.yes));
     tested.number
+}
+
+// out: number place slot
+#[no_mangle]
+pub extern "C" fn slots_next(index: &[u8], name: u32, slot: u32, out: &mut [u64]) -> u32
+    ensures { λ r. ⌜ HandsNext (now (index .entry)) name slot (now (out .entry)) r (now (out .exit)) ⌝ }
+{
+    let told = next(index, name, slot);
+    put_three(out, told.number, told.place, told.slot);
+    told.number
 }
 
 // out: number place count

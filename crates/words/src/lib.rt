@@ -1,6 +1,7 @@
 // Numbers of four bytes, read and written, and of eight, read; and the bits of a bit part: one bit, setting one, whether any is set beyond a cut,
-// and how many are set up to it.
+// how many are set up to it, and the next one from a slot on.
 ghost use mathlib.Core.Path.{_≡_};
+ghost use mathlib.Core.Bool.{false};
 ghost use Prim.Native.Nat.{_+_, _-_, _*_, _%_, _≤_, _<_};
 ghost use lib.Dec.{ltb};
 ghost use lib.ListN.{length};
@@ -9,6 +10,7 @@ ghost use Rattle.paper.specs.Bytes.{byteAt, u32At, u32Bytes};
 ghost use Rattle.paper.specs.Record.{bitAt, nextBit, unused, slotsToCut};
 ghost use Rattle.words.specs.Marks.{withBit};
 ghost use Rattle.words.specs.Ones.{topOnes};
+ghost use Rattle.words.specs.Runs.{Clear};
 
 // The byte at i, as a wide number. Its bound is promised too, so that sums of bytes are seen to fit.
 pub fn byte(s: &[u8], i: usize) -> u32
@@ -130,4 +132,40 @@ pub fn ones_to(bits: &[u8], cut: u32) -> u32
         return ones;
     }
     ones + top_ones(bits[i], rest)
+}
+
+// From a bit that is not set on, how many are passed over at once: to the end of a byte in which none is set, else that one. Where fewer bits are left to be
+// looked at than the byte has, one at a time will do: it is the last byte.
+fn clear_run(bits: &[u8], x: u32, left: u32) -> u32
+    requires { ⌜ (0 < x) × (0 < left) × (x + left ≤ 8 * length (now bits) + 1) × (bitAt (now bits) x ≡ false) ⌝ }
+    ensures { λ r. ⌜ (1 ≤ r) × (r ≤ left) × Clear (now (bits .entry)) x r ⌝ }
+{
+    let before = x - 1;
+    let to_end = 8 - before % 8;
+    if left < to_end {
+        return 1;
+    }
+    let at = (before / 8) as usize;
+    if bits[at] == 0 {
+        return to_end;
+    }
+    1
+}
+
+// The first of the k bits from x on that is set, or 0.
+pub fn next_bit(bits: &[u8], x: u32, k: u32) -> u32
+    requires { ⌜ (0 < x) × (x + k ≤ 8 * length (now bits) + 1) × (x + k ≤ 4294967295) ⌝ }
+    ensures { λ r. ⌜ r ≡ nextBit (now (bits .entry)) x k ⌝ }
+{
+    let mut at = x;
+    let mut left = k;
+    while 0 < left {
+        if bit(bits, at) {
+            return at;
+        }
+        let run = clear_run(bits, at, left);
+        at = at + run;
+        left = left - run;
+    }
+    0
 }

@@ -1,5 +1,5 @@
-//! Cases of how large a record can be. They stand behind all others, so that
-//! these keep their numbers. U is the number of slots behind the cut.
+//! Cases of how large a record can be. They stand behind all that there were before
+//! them, so that these keep their numbers. U is the number of slots behind the cut.
 
 use super::shape::WILD;
 use super::Deck;

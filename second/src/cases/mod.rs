@@ -9,11 +9,12 @@ mod asking;
 mod bounds;
 mod costs;
 mod looking;
+mod nexts;
 mod others;
 pub(crate) mod shape;
 
 use crate::random::Random;
-use crate::{ask, bound, close, count, lend, look, part, program, read_line, test, write};
+use crate::{ask, bound, close, count, lend, look, next, part, program, read_line, test, write};
 
 /// All cases, the same on every run.
 pub fn all() -> Vec<String> {
@@ -24,6 +25,7 @@ pub fn all() -> Vec<String> {
     others::add(&mut deck, &mut random);
     costs::add(&mut deck, &mut random);
     bounds::add(&mut deck);
+    nexts::add(&mut deck);
     deck.lines
 }
 
@@ -68,15 +70,14 @@ impl Deck {
 
     fn test(&mut self, label: &str, index: &[u8], name: u32, slot: u32) {
         let a = test(index, name, slot);
-        let fields = [
-            hex(index),
-            name.to_string(),
-            slot.to_string(),
-            a.number.to_string(),
-            a.place.to_string(),
-            u32::from(a.yes).to_string(),
-        ];
-        self.keep("test", &fields, label);
+        let told = [a.number, a.place, u32::from(a.yes)];
+        self.keep("test", &of_slot(index, name, slot, &told), label);
+    }
+
+    fn next(&mut self, label: &str, index: &[u8], name: u32, slot: u32) {
+        let a = next(index, name, slot);
+        let told = [a.number, a.place, a.slot];
+        self.keep("next", &of_slot(index, name, slot, &told), label);
     }
 
     fn count(&mut self, label: &str, index: &[u8], name: u32) {
@@ -179,6 +180,15 @@ fn hex(bytes: &[u8]) -> String {
         return "-".to_string();
     }
     bytes.iter().map(|byte| format!("{byte:02x}")).collect()
+}
+
+/// The fields of a case that is about one slot of a list.
+fn of_slot(index: &[u8], name: u32, slot: u32, told: &[u32]) -> Vec<String> {
+    let asked = [hex(index), name.to_string(), slot.to_string()];
+    asked
+        .into_iter()
+        .chain(told.iter().map(u32::to_string))
+        .collect()
 }
 
 fn numbers<T: ToString>(values: &[T]) -> String {

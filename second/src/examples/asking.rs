@@ -44,7 +44,7 @@ fn costs(page: &mut Page, p: &[u8], alternating: &[u32]) {
 }
 
 /// Testing, counting and lending, on the paper's index and on a damaged one;
-/// and counting one list that is cut in many ways.
+/// counting one list that is cut in many ways; and the next slot on all of these.
 pub fn single_lists(page: &mut Page) {
     let p = paper();
     for (slot, list) in [(32, 0), (0, 0), (33, 0), (30, 1), (1, 2)] {
@@ -59,17 +59,47 @@ pub fn single_lists(page: &mut Page) {
     let damaged = with_byte(&p, 54, 0x81);
     page.test("byte 54 is 81, slot 5", &damaged, 0, 5);
     page.count("byte 54 is 81, count list 1", &damaged, 1);
-    sevenths(page);
+    let lists = sevenths();
+    count_sevenths(page, &lists);
+    nexts(page, &p);
+    next_sevenths(page, &lists);
 }
 
-/// One list cut in many ways: at and beside the ends of 8, 9 and 16 bytes of
-/// bits, and at u.
-fn sevenths(page: &mut Page) {
+/// Cuts at and beside the ends of 8, 9 and 16 bytes of bits, and at u.
+const CUTS: [u32; 7] = [63, 64, 71, 72, 127, 128, 196];
+
+/// One list cut in all these ways.
+fn sevenths() -> Vec<u8> {
     let slots: Vec<u32> = (7..=196).step_by(7).collect();
-    let cuts = [63, 64, 71, 72, 127, 128, 196];
-    let lists = index(196, 128, &cuts.map(|cut| record(196, 128, cut, &slots)));
-    for (list, cut) in (0..).zip(cuts) {
-        page.count(&format!("every seventh slot, cut {cut}"), &lists, list);
+    index(196, 128, &CUTS.map(|cut| record(196, 128, cut, &slots)))
+}
+
+fn count_sevenths(page: &mut Page, lists: &[u8]) {
+    for (list, cut) in (0..).zip(CUTS) {
+        page.count(&format!("every seventh slot, cut {cut}"), lists, list);
+    }
+}
+
+/// The next slot on the paper's index, and on it with one byte changed.
+fn nexts(page: &mut Page, p: &[u8]) {
+    let asked = [(5, 0), (7, 0), (9, 0), (31, 0), (6, 1), (17, 1), (32, 1)];
+    let refused = [(0, 0), (33, 0), (33, 2)];
+    for (slot, list) in asked.into_iter().chain(refused) {
+        page.next(&format!("next from {slot} in list {list}"), p, list, slot);
+    }
+    let damaged = with_byte(p, 54, 0x81);
+    page.next("byte 54 is 81, next from 5", &damaged, 0, 5);
+    // The second byte of list 1's bits: 12 and 16 are gone.
+    let fewer = with_byte(p, 68, 0);
+    page.next("byte 68 is 0, next from 6", &fewer, 1, 6);
+}
+
+/// The next slot where the bits end before it, and where it is their last.
+fn next_sevenths(page: &mut Page, lists: &[u8]) {
+    for (list, slot) in [(4, 127), (6, 190)] {
+        let cut = CUTS[list as usize];
+        let label = format!("every seventh slot, cut {cut}, next from {slot}");
+        page.next(&label, lists, list, slot);
     }
 }
 

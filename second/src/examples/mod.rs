@@ -9,7 +9,7 @@ mod looking;
 mod writing;
 
 use crate::cases::shape::{index, raw};
-use crate::{ask, bound, close, count, look, part, test, write};
+use crate::{ask, bound, close, count, look, next, part, test, write};
 
 /// All examples, always in this order.
 pub fn all() -> Vec<String> {
@@ -98,6 +98,11 @@ impl Page {
     fn test(&mut self, label: &str, index: &[u8], name: u32, slot: u32) {
         let a = test(index, name, slot);
         self.keep(label, &[a.number, a.place, a.yes.into()].map(u64::from));
+    }
+
+    fn next(&mut self, label: &str, index: &[u8], name: u32, slot: u32) {
+        let a = next(index, name, slot);
+        self.keep(label, &[a.number, a.place, a.slot].map(u64::from));
     }
 
     fn count(&mut self, label: &str, index: &[u8], name: u32) {

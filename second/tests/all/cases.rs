@@ -62,7 +62,7 @@ impl Case {
         let at = match self.operation.as_str() {
             "look" => 1,
             "ask" | "bound" => 4,
-            "test" => 3,
+            "test" | "next" => 3,
             "count" | "part" => 2,
             "write" | "close" => 5,
             _ => return None,
@@ -108,6 +108,7 @@ fn form_and_size() {
         ("look", 3),
         ("ask", 12),
         ("test", 6),
+        ("next", 6),
         ("count", 5),
         ("part", 7),
         ("write", 9),
@@ -117,7 +118,7 @@ fn form_and_size() {
         ("line", 2),
     ]);
     let cases = cases();
-    assert!((150..=220).contains(&cases.len()), "{}", cases.len());
+    assert!((150..=250).contains(&cases.len()), "{}", cases.len());
     assert!(all().iter().map(|line| line.len() + 1).sum::<usize>() < 120_000);
     let mut labels = BTreeSet::new();
     let mut operations = BTreeMap::new();
@@ -127,9 +128,10 @@ fn form_and_size() {
         assert!(!case.label.is_empty());
         assert!(labels.insert((case.operation.clone(), case.label.clone())));
         *operations.entry(case.operation.clone()).or_insert(0) += 1;
-        if ["look", "ask", "test", "count", "part"].contains(&case.operation.as_str()) {
+        if ["look", "ask", "test", "next", "count", "part"].contains(&case.operation.as_str()) {
             let index = case.bytes(0);
-            assert!(index.len() <= 500, "{}", index.len());
+            let most = if case.operation == "next" { 130 } else { 500 };
+            assert!(index.len() <= most, "{}", index.len());
             if second::look(&index).number == 0 {
                 for list in model::read(&index).lists {
                     assert!(list.cut <= 200 && list.count() <= 60);
@@ -141,6 +143,7 @@ fn form_and_size() {
         ("look", 50),
         ("ask", 30),
         ("test", 8),
+        ("next", 18),
         ("count", 5),
         ("part", 5),
         ("write", 15),
@@ -166,10 +169,11 @@ fn every_number_is_given() {
     for number in 0..=17 {
         assert!(overall.get(&number) >= Some(&2), "{number}");
     }
-    let own: [(&str, &[u32]); 8] = [
+    let own: [(&str, &[u32]); 9] = [
         ("look", &[0, 1, 2, 3, 4, 5, 6, 7, 8, 9, 17]),
         ("ask", &[0, 10, 11, 12, 14]),
         ("test", &[0, 11, 16]),
+        ("next", &[0, 11, 16]),
         ("count", &[0, 11]),
         ("part", &[0, 11]),
         ("write", &[0, 4, 12, 13, 15]),
@@ -183,7 +187,7 @@ fn every_number_is_given() {
         }
     }
     // Operations that look first also meet bad indexes.
-    for operation in ["ask", "test", "count", "part"] {
+    for operation in ["ask", "test", "next", "count", "part"] {
         let bad = (1..=9).any(|n| by_operation.contains_key(&(operation.to_string(), n)));
         assert!(bad, "{operation}");
         let rubbish = by_operation.contains_key(&(operation.to_string(), 17));
@@ -388,7 +392,7 @@ fn looking_finds_the_first_fault() {
     for case in cases() {
         let at = match case.operation.as_str() {
             "look" => 1,
-            "test" => 3,
+            "test" | "next" => 3,
             "count" | "part" => 2,
             "ask" => 4,
             _ => continue,
@@ -490,7 +494,7 @@ fn wild_numbers_in_every_field() {
     let mut seen = Seen::default();
     for case in cases() {
         let operation = case.operation.as_str();
-        if ["look", "ask", "test", "count", "part"].contains(&operation) {
+        if ["look", "ask", "test", "next", "count", "part"].contains(&operation) {
             note_wild(&mut seen, &case.bytes(0));
         }
         match operation {
@@ -499,6 +503,10 @@ fn wild_numbers_in_every_field() {
                 seen.note("name", case.list(2).into_iter().any(is_wild));
             }
             "test" => seen.note("name tested", is_wild(case.number(1))),
+            "next" => {
+                seen.note("name of the next", is_wild(case.number(1)));
+                seen.note("slot of the next", is_wild(case.number(2)));
+            }
             "count" => seen.note("name counted", is_wild(case.number(1))),
             "part" => seen.note("name lent", is_wild(case.number(1))),
             "write" => {
@@ -621,7 +629,14 @@ fn answers_agree_with_the_model() {
 #[test]
 fn sound_cuts_within_a_byte() {
     let mut seen = Seen::default();
-    for (operation, number) in [("ask", 4), ("test", 3), ("count", 2), ("part", 2)] {
+    let numbers = [
+        ("ask", 4),
+        ("test", 3),
+        ("next", 3),
+        ("count", 2),
+        ("part", 2),
+    ];
+    for (operation, number) in numbers {
         for case in of(operation) {
             if case.number(number) != 0 {
                 continue;
@@ -824,6 +839,107 @@ fn note_visits(seen: &mut Seen, index: &model::Index, visits: &[Visit]) {
             );
         }
     }
+}
+
+/// A next slot that was told, with the list it is of and the slot asked from.
+struct Next<'a> {
+    index: &'a model::Index,
+    list: &'a model::List,
+    x: u32,
+    slot: u32,
+}
+
+impl Next<'_> {
+    /// Where a slot of the tail stands within its block, counted from 0.
+    fn within_block(&self, slot: u32) -> Option<usize> {
+        let at = self.list.tail.iter().position(|&other| other == slot);
+        at.map(|at| at % self.index.block)
+    }
+}
+
+#[test]
+fn nexts_of_every_kind() {
+    let mut seen = Seen::default();
+    for case in of("next") {
+        let [name, x, number, place, slot] = [1, 2, 3, 4, 5].map(|i| case.number(i));
+        note_next_refused(&mut seen, number, place, [name, x]);
+        if number != 0 {
+            assert_eq!(slot, 0, "{}", case.label);
+            continue;
+        }
+        let index = &model::read(&case.bytes(0));
+        let list = &index.lists[name as usize];
+        assert_eq!(place, 0);
+        assert_eq!(slot, model::least(&list.slots(), x), "{}", case.label);
+        let next = Next {
+            index,
+            list,
+            x,
+            slot,
+        };
+        note_next_itself(&mut seen, &next);
+        if x <= list.cut {
+            note_next_of_bits(&mut seen, &next);
+        } else {
+            note_next_of_tail(&mut seen, &next);
+        }
+    }
+    seen.expect(1);
+}
+
+/// Why no next slot is told. The paper's u is 32, and it has two lists.
+fn note_next_refused(seen: &mut Seen, number: u32, place: u32, asked: [u32; 2]) {
+    seen.note("slot 0", number == 16 && asked == [0, 0]);
+    seen.note("slot u + 1", number == 16 && asked[1] == 33);
+    seen.note("11 before 16", number == 11 && asked == [2, 0]);
+    let wild = asked.into_iter().all(is_wild);
+    seen.note("name and slot wild", number == 11 && wild);
+    seen.note("a damaged code", number == 8);
+    seen.note("a bit behind a cut", number == 17 && place == 1);
+}
+
+/// The slot asked from is held, in each of the places where it can be.
+fn note_next_itself(seen: &mut Seen, next: &Next) {
+    let itself = next.slot == next.x;
+    let place = next.within_block(next.x);
+    seen.note("itself at the cut", itself && next.x == next.list.cut);
+    seen.note("itself a first slot", itself && place == Some(0));
+    seen.note("itself within a block", itself && place > Some(0));
+    seen.note("itself u", itself && next.x == next.index.u);
+}
+
+/// From a slot up to the cut: a larger bit, or none.
+fn note_next_of_bits(seen: &mut Seen, next: &Next) {
+    let Next { list, x, slot, .. } = *next;
+    let byte = |slot: u32| (slot - 1) / 8;
+    let larger = slot > x && slot <= list.cut;
+    seen.note("the same byte", larger && byte(slot) == byte(x));
+    seen.note("a later byte", larger && byte(slot) > byte(x));
+    let alone = larger && list.bits == [slot] && byte(slot) == byte(list.cut);
+    seen.note("only in the last byte", alone && byte(slot) > 7 && x == 1);
+    let whole = list.cut == next.index.u;
+    seen.note("cut = u", larger && whole && slot == next.index.u);
+    let out = !list.cut.is_multiple_of(8) && list.bits.last() < Some(&x);
+    seen.note("bits run out, a block", out && slot > list.cut);
+    seen.note("bits run out, no block", out && slot == 0 && !whole);
+}
+
+/// From a slot behind the cut: in its block, in the one behind it, or none.
+fn note_next_of_tail(seen: &mut Seen, next: &Next) {
+    let Next { list, x, slot, .. } = *next;
+    let firsts = list.tail.iter().step_by(next.index.block);
+    let j = firsts.filter(|&&first| first <= x).count();
+    let place = next.within_block(slot);
+    let first = slot > x && place == Some(0);
+    seen.note("j 0 behind a cut", j == 0 && first && list.cut > 0);
+    seen.note("j 0, cut 0", j == 0 && first && list.cut == 0);
+    let within = slot > x && place > Some(0);
+    seen.note("a larger slot of the block", within && j > 1);
+    let longer = list.code_sizes[1] == 1 && j == 1 && place == Some(1);
+    seen.note("by a longer code", within && longer);
+    seen.note("a block runs out", first && j > 1);
+    seen.note("the last block runs out", slot == 0 && j > 1);
+    seen.note("an empty list", list.count() == 0 && slot == 0);
 }
 
 #[test]

@@ -1,7 +1,7 @@
 //! The largest numbers the paper allows.
 
 use crate::tools::*;
-use second::{close, count, test, write};
+use second::{close, count, next, test, write};
 
 const MOST: u32 = 1_048_576;
 
@@ -46,11 +46,29 @@ fn all_slots_in_long_blocks_and_in_bits() {
     for name in 0..3 {
         assert_eq!(count(&index, name), counted(0, 0, MOST));
         assert_eq!(test(&index, name, MOST), tested(0, 0, true));
+        assert_eq!(next(&index, name, MOST), follows(0, 0, MOST));
     }
     answers(&index, 0, &[0, 1, 2], MOST as usize, &all, (0, 0));
     refuses(&index, 1, &[0, 1, 2], MOST as usize - 1, 12, MOST);
     // Bits answer without a search.
     answers(&index, 1, &[0, 1], MOST as usize, &all, (0, 0));
+}
+
+#[test]
+fn the_farthest_next_slot() {
+    let last = [MOST];
+    let index = lists(MOST, 128, &[(0, &last), (MOST, &last), (MOST - 1, &last)]);
+    for name in 0..3 {
+        for slot in [1, MOST - 1, MOST] {
+            assert_eq!(next(&index, name, slot), follows(0, 0, MOST));
+        }
+        assert_eq!(next(&index, name, MOST + 1), follows(16, 0, 0));
+    }
+    let index = lists(MOST, 1, &[(0, &[1]), (MOST, &[1]), (1, &[1, 2])]);
+    for name in 0..3 {
+        assert_eq!(next(&index, name, 3), follows(0, 0, 0));
+        assert_eq!(next(&index, name, MOST), follows(0, 0, 0));
+    }
 }
 
 #[test]

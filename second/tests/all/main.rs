@@ -10,6 +10,7 @@ mod examples;
 mod further;
 mod large;
 mod model;
+mod next;
 mod printing;
 mod properties;
 mod rack;

@@ -1,7 +1,7 @@
-//! A reader of sound indexes and a teller of searches and sizes, written only to
-//! be compared with. It takes other roads than the package: tails are decoded in
-//! one run without their offsets, searches are told from plain slots, and sizes
-//! are counted out in steps.
+//! A reader of sound indexes and a teller of searches, next slots and sizes, written
+//! only to be compared with. It takes other roads than the package: tails are
+//! decoded in one run without their offsets, searches and next slots are told from
+//! plain slots, and sizes are counted out in steps.
 
 /// One list as slots.
 pub struct List {
@@ -236,6 +236,12 @@ pub fn question(index: &Index, names: &[u32]) -> (Vec<u32>, Vec<Visit>) {
         visits.push(visit);
     }
     (candidates, visits)
+}
+
+/// The least of some slots that is not below `x`, or 0.
+pub fn least(slots: &[u32], x: u32) -> u32 {
+    let from_x = slots.iter().copied().filter(|&slot| slot >= x);
+    from_x.min().unwrap_or(0)
 }
 
 /// How large a record can be. Nothing is divided: parts that are begun count for

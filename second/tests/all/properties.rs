@@ -3,7 +3,7 @@
 use crate::model;
 use crate::tools::*;
 use second::random::Random;
-use second::{ask, close, count, lend, look, part, test, write, Verdict};
+use second::{ask, close, count, lend, look, next, part, test, write, Verdict};
 use std::collections::{BTreeMap, BTreeSet};
 
 /// Lists with their sizes, before they are packed.
@@ -330,6 +330,7 @@ fn examine(index: &[u8]) -> bool {
     if verdict.number != 0 {
         let Verdict { number, place } = verdict;
         assert_eq!(test(index, 0, 1), tested(number, place, false));
+        assert_eq!(next(index, 0, 1), follows(number, place, 0));
         assert_eq!(count(index, 0), counted(number, place, 0));
         assert_eq!(part(index, 0), lies(number, place, 0, 0));
         assert!(lend(index, 0).is_empty());
@@ -341,6 +342,10 @@ fn examine(index: &[u8]) -> bool {
     for (i, list) in modelled.lists.iter().enumerate() {
         let name = i as u32;
         assert_eq!(count(index, name), counted(0, 0, list.count() as u32));
+        for slot in [1, modelled.u.div_ceil(2), modelled.u] {
+            let least = model::least(&list.slots(), slot);
+            assert_eq!(next(index, name, slot), follows(0, 0, least));
+        }
         let record = written(modelled.u, modelled.block as u32, list.cut, &list.slots());
         assert_eq!(lend(index, name), record);
         records.push(record);

@@ -2,7 +2,7 @@
 //! order in which faults are found.
 
 use crate::tools::*;
-use second::{count, lend, part, test};
+use second::{count, lend, next, part, test};
 
 /// Puts one record between two sound ones and expects the fault at list 1; and
 /// the record alone, with the fault at list 0.
@@ -356,6 +356,8 @@ fn row_17_in_every_operation() {
     for name in [0, 1, 2, WILD] {
         assert_eq!(test(&index, name, 12), tested(17, 1, false));
         assert_eq!(test(&index, name, 0), tested(17, 1, false));
+        assert_eq!(next(&index, name, 12), follows(17, 1, 0));
+        assert_eq!(next(&index, name, 0), follows(17, 1, 0));
         assert_eq!(count(&index, name), counted(17, 1, 0));
         assert_eq!(part(&index, name), lies(17, 1, 0, 0));
         assert!(lend(&index, name).is_empty());

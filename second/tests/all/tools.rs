@@ -1,6 +1,6 @@
 //! Short ways to say what is given and what is expected.
 
-use second::{Answer, Counted, Part, Tested, Verdict, Written};
+use second::{Answer, Counted, Next, Part, Tested, Verdict, Written};
 
 /// A number near the end of what four bytes hold.
 pub const WILD: u32 = u32::MAX;
@@ -180,6 +180,14 @@ pub fn refuses(index: &[u8], way: u32, names: &[u32], room: usize, number: u32, 
 
 pub fn tested(number: u32, place: u32, yes: bool) -> Tested {
     Tested { number, place, yes }
+}
+
+pub fn follows(number: u32, place: u32, slot: u32) -> Next {
+    Next {
+        number,
+        place,
+        slot,
+    }
 }
 
 pub fn counted(number: u32, place: u32, count: u32) -> Counted {

@@ -32,8 +32,8 @@ fn each_has_its_own_label() {
         .iter()
         .map(|line| line.split_once(": ").expect("a colon").0)
         .collect();
-    assert_eq!(lines.len(), 147);
-    assert_eq!(labels.len(), 147);
+    assert_eq!(lines.len(), 161);
+    assert_eq!(labels.len(), 161);
 }
 
 #[test]
@@ -212,6 +212,67 @@ fn one_list_cut_in_many_ways() {
         ("every seventh slot, cut 128", "0 0 28"),
         ("every seventh slot, cut 196", "0 0 28"),
     ]);
+}
+
+#[test]
+fn next_slots_on_the_papers_index() {
+    says(&[
+        // Blocks of list 0 begin at 1, 8, 18 and 27: 7 is behind the last slot of
+        // the first one, 9 in the second, 31 behind them all.
+        ("next from 5 in list 0", "0 0 5"),
+        ("next from 7 in list 0", "0 0 8"),
+        ("next from 9 in list 0", "0 0 12"),
+        ("next from 31 in list 0", "0 0 0"),
+        // List 1 has bits up to 16, and one block from 26 to 31.
+        ("next from 6 in list 1", "0 0 12"),
+        ("next from 17 in list 1", "0 0 26"),
+        ("next from 32 in list 1", "0 0 0"),
+        ("next from 0 in list 0", "16 0 0"),
+        ("next from 33 in list 0", "16 0 0"),
+        ("next from 33 in list 2", "11 0 0"),
+        ("byte 54 is 81, next from 5", "8 0 0"),
+        // Of its bits those of 3 and 5 are left.
+        ("byte 68 is 0, next from 6", "0 0 26"),
+    ]);
+}
+
+#[test]
+fn next_slots_of_one_list() {
+    says(&[
+        // 18 times 7 is 126 and the last bit; 19 times 7 is the block's first slot.
+        ("every seventh slot, cut 127, next from 127", "0 0 133"),
+        // 27 times 7 is 189.
+        ("every seventh slot, cut 196, next from 190", "0 0 196"),
+    ]);
+}
+
+#[test]
+fn the_lines_about_next_slots_have_their_places() {
+    let lines = examples::all();
+    let labels: Vec<&str> = lines
+        .iter()
+        .map(|line| line.split_once(": ").expect("a colon").0)
+        .collect();
+    let expected = [
+        "every seventh slot, cut 196",
+        "next from 5 in list 0",
+        "next from 7 in list 0",
+        "next from 9 in list 0",
+        "next from 31 in list 0",
+        "next from 6 in list 1",
+        "next from 17 in list 1",
+        "next from 32 in list 1",
+        "next from 0 in list 0",
+        "next from 33 in list 0",
+        "next from 33 in list 2",
+        "byte 54 is 81, next from 5",
+        "byte 68 is 0, next from 6",
+        "every seventh slot, cut 127, next from 127",
+        "every seventh slot, cut 196, next from 190",
+        "six entries, x 4",
+    ];
+    let first = labels.iter().position(|&label| label == expected[0]);
+    assert_eq!(labels[first.unwrap()..][..expected.len()], expected);
 }
 
 #[test]

@@ -1,10 +1,11 @@
 use Prim.Native.Nat.{_-_, _≤_}
+use native.Mathlib.Nat.{le-of-lt}
 use lib.ListN.{length}
 use borrow.Author.Needs.{needs}
 use Rattle.paper.specs.Block.{readCodes}
 use Rattle.paper.specs.Walk.{seek}
 use Rattle.codes.specs.InBlock.{stopped}
-use Rattle.codes.proofs.Turns.{Head, seeks}
+use Rattle.codes.proofs.Turns.{Head, stop-here, seeks}
 use Rattle.codes.proofs.seek_in.Statement.{statement}
 use Rattle.codes.proofs.seek_in.Tie as tie
 
@@ -18,8 +19,9 @@ abbrev μ-loop : tie.MeasureT-loop
 loop-holds : tie.Need-loop-holds Inv-loop μ-loop
 loop-holds c = search (seeks, needs)
 
+-- (le-of-lt: not needed today; with it, a test of the slot by `<` in place of `<=` fails at what it breaks)
 returns : tie.Need-returns Inv-loop μ-loop
-returns c = search (seeks, needs)
+returns c = search (stop-here, le-of-lt)
 
 read-code-requires : tie.Need-read-code-requires Inv-loop μ-loop
 read-code-requires c κs = search (seeks, needs)

@@ -1,4 +1,4 @@
-use Rattle.search.proofs.Trials.{bit-tests, by-none, by-block, j-within}
+use Rattle.search.proofs.Trials.{bit-inside, by-bit, by-next}
 use borrow.Author.Needs.{needs}
 use Rattle.search.proofs.try_slot.Statement.{statement}
 use Rattle.search.proofs.try_slot.Tie as tie
@@ -13,31 +13,16 @@ part-bit-end : tie.Need-part-bit-end
 part-bit-end c = search needs
 
 bit-requires : tie.Need-bit-requires
-bit-requires c κs = (search needs, search bit-tests)
+bit-requires c κs = (search needs, search bit-inside)
 
 returns : tie.Need-returns
-returns c = (search bit-tests, search needs)
+returns c = (search by-bit, search needs)
 
-sub-search : tie.Need-sub-search
-sub-search c = search needs
-
-part-search-start : tie.Need-part-search-start
-part-search-start c = search needs
-
-part-search-end : tie.Need-part-search-end
-part-search-end c = search needs
-
-search-requires : tie.Need-search-requires
-search-requires c κs = search needs
+next-slot-requires : tie.Need-next-slot-requires
+next-slot-requires c κs = search needs
 
 returns-2 : tie.Need-returns-2
-returns-2 c = (search by-none, search needs)
-
-in-block-requires : tie.Need-in-block-requires
-in-block-requires c κs = (search needs, search needs, search j-within)
-
-returns-3 : tie.Need-returns-3
-returns-3 c = (search by-block, search j-within)
+returns-2 c = (search by-next, search needs)
 
 pub try-slot-spec : {M : Type 1} → statement M
 try-slot-spec =
@@ -48,10 +33,5 @@ try-slot-spec =
     part-bit-end
     bit-requires
     returns
-    sub-search
-    part-search-start
-    part-search-end
-    search-requires
-    returns-2
-    in-block-requires
-    returns-3)
+    next-slot-requires
+    returns-2)
