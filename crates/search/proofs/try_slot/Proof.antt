@@ -1,3 +1,4 @@
+use Rattle.record.proofs.Opening.{bits-hold}
 use Rattle.search.proofs.Trials.{bit-inside, by-bit, by-next}
 use borrow.Author.Needs.{needs}
 use Rattle.search.proofs.try_slot.Statement.{statement}
@@ -12,8 +13,9 @@ part-bit-start c = search needs
 part-bit-end : tie.Need-part-bit-end
 part-bit-end c = search needs
 
+-- (bits-hold: not needed today; with it, a test of the cut's bit in place of the candidate's fails at what it breaks)
 bit-requires : tie.Need-bit-requires
-bit-requires c κs = (search needs, search bit-inside)
+bit-requires c κs = (search needs, search (bit-inside, bits-hold))
 
 returns : tie.Need-returns
 returns c = (search by-bit, search needs)
