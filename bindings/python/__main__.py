@@ -13,6 +13,7 @@ import re
 import sys
 from typing import Any, Callable, Dict, Iterable, Iterator, List, NoReturn, Tuple
 
+import bills
 import packing
 import reading
 import saving
@@ -125,20 +126,25 @@ def _table(lists: List[reading.List]) -> Iterator[str]:
 
 
 def _costs(index: bytes, names: List[int], answer: slots.Answer) -> Iterator[str]:
-    """What each list named cost, in the order named, with a mark at the starting list."""
-    counts = [each.count for each in reading.read(index).lists]
-    starting = min(range(len(names)), key=lambda at: counts[names[at]])  # of several smallest the one named first
-    for at, (name, looks, codes) in enumerate(zip(names, answer.looks_at, answer.codes_at)):
-        mark = f" (the starting list: {_many(counts[name], 'candidate')})" if at == starting else ""
-        yield f"list {name}: {_cost(looks, codes)}{mark}"
+    """What each list named cost, in the order named, with a bound for its looks; the starting list, where nothing is sought, has a mark instead."""
+    lists = reading.read(index).lists
+    for name, q, looks, codes in zip(names, bills.searches(index, lists, names), answer.looks_at, answer.codes_at):
+        bound = "" if q is None else f" ({_bound(q, lists[name].blocks)})"
+        mark = f" (the starting list: {_many(lists[name].count, 'candidate')})" if q is None else ""
+        yield f"list {name}: {_many(looks, 'look')}{bound}, {_many(codes, 'code')}{mark}"
+
+
+def _bound(q: int, m: int) -> str:
+    e, most = bills.best(q, m)
+    return f"at most {most}: {_many(q, 'search', 'es')}, {_many(m, 'block')}, e {e}"
 
 
 def _cost(looks: int, codes: int) -> str:
     return f"{_many(looks, 'look')}, {_many(codes, 'code')}"
 
 
-def _many(count: int, what: str) -> str:
-    return f"{count} {what}" if count == 1 else f"{count} {what}s"
+def _many(count: int, what: str, ending: str = "s") -> str:
+    return f"{count} {what}" if count == 1 else f"{count} {what}{ending}"
 
 
 def _way(text: str) -> slots.Way:
@@ -190,6 +196,13 @@ read. The list with the fewest slots (of several, the one named first) is the
 starting list. Its slots are the candidates, which are sought in the other lists,
 one list after the other; what one of them lacks is sought no more. The starting
 list itself costs nothing. The plain way does not search, and no list has a cost.
+
+Behind the looks of a list stands a bound for them, and what it is made of: q, how
+many searches there were (one for each candidate that comes to the list and lies
+above its cut), m, how many blocks the list has, and e. For every whole e from 0 on,
+the looks are at most q + 2qe + 2 * floor(m / 2^e). That is proved: they never pass
+it. Shown is the bound for the e for which it is least (of several, the smallest e).
+docs/LOOKS.md has more.
 
 example:
   python3 bindings/python ask crates/rack/data/rack.idx skips 0 1""", [

@@ -1,7 +1,7 @@
 //! Questions to sound indexes.
 
 use crate::case::{Call, Case, Verdict};
-use crate::make::{gallop, once_in, one_of, some_shelf, Shelf, WILD};
+use crate::make::{few, gallop, once_in, one_of, some_shelf, Shelf, WILD};
 use second::random::Random;
 
 /// A question to any shelf.
@@ -17,6 +17,14 @@ pub fn far(random: &mut Random) -> Case {
     let shelf = gallop(random);
     let names = one_of(random, &[[0, 1], [1, 0]]).to_vec();
     asked(random, "long searches", &shelf, 1, names)
+}
+
+/// A question by skips that seeks few slots in many blocks, alone or behind another
+/// list's turn.
+pub fn seldom(random: &mut Random) -> Case {
+    let shelf = few(random);
+    let names = one_of(random, &[&[0, 1], &[1, 0], &[0, 2, 1][..], &[1, 2, 0]]).to_vec();
+    asked(random, "few slots in many blocks", &shelf, 1, names)
 }
 
 fn some_way(random: &mut Random) -> u32 {

@@ -6,6 +6,7 @@
 #![forbid(unsafe_code)]
 
 mod ask;
+mod bill;
 mod case;
 mod chain;
 mod closing;

@@ -249,6 +249,64 @@ pub fn gallop(random: &mut Random) -> Shelf {
     }
 }
 
+/// A list of many blocks, and so few slots to look for in it that its blocks are far
+/// more than the searches. Some of these slots may be bits of the list, or all. A
+/// third list has half of them, and some others.
+pub fn few(random: &mut Random) -> Shelf {
+    let block = one_of(random, &[1, 1, 2, 3]);
+    let every = one_of(random, &[4, 8, 16, 32]);
+    let rest = one_of(random, &[0, every - 1, every - 1, every / 2]);
+    let many = (every * random.between(1, 6) + rest) * block;
+    let cut = random.between(1, 90) * random.below(2);
+    let bits: Vec<u32> = (1..=cut).filter(|_| once_in(random, 3)).collect();
+    let step = random.between(1, 4);
+    let tail: Vec<u32> = (1..=many).map(|i| cut + step * i).collect();
+    let u = cut + step * many + random.below(20);
+    let firsts: Vec<u32> = tail.iter().copied().step_by(block as usize).collect();
+    let wanted = few_wanted(random, &bits, &firsts, every as usize);
+    let other = some_cut(random, u, &wanted);
+    let half = &wanted[wanted.len() / 2..];
+    let between = sorted([half, &run(random, u, 9)].concat());
+    let long = [bits, tail].concat();
+    let lists = vec![
+        List::of(block, cut, &long),
+        List::of(block, other, &wanted),
+        List::of(block, cut, &between),
+    ];
+    Shelf {
+        u,
+        block,
+        lists,
+        held: vec![long, wanted, between],
+    }
+}
+
+/// The slots to look for. Those behind the cut are first slots of blocks that lie so
+/// far apart that each search takes all its halvings, or of any blocks, or they are
+/// the slots before.
+fn few_wanted(random: &mut Random, bits: &[u32], firsts: &[u32], every: usize) -> Vec<u32> {
+    let many = random.between(1, 4) as usize;
+    let mut wanted: Vec<u32> = match random.below(3) {
+        0 => (0..many).map(|_| one_of(random, firsts)).collect(),
+        1 => (0..many).map(|_| one_of(random, firsts) - 1).collect(),
+        _ => firsts
+            .iter()
+            .copied()
+            .skip(every - 1)
+            .step_by(every)
+            .collect(),
+    };
+    wanted.truncate(many);
+    if !bits.is_empty() && once_in(random, 3) {
+        wanted.clear();
+    }
+    if !bits.is_empty() && once_in(random, 2) {
+        wanted.extend([one_of(random, bits), one_of(random, bits)]);
+    }
+    wanted.retain(|&slot| slot > 0);
+    sorted(wanted)
+}
+
 /// Ascending slots, each once.
 pub fn sorted_slots(random: &mut Random, u: u32, limit: u32) -> Vec<u32> {
     sorted(some_slots(random, u, limit))

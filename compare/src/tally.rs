@@ -1,5 +1,6 @@
 //! What a run has met, and whether that is enough.
 
+use crate::bill;
 use crate::case::{Call, Case, Outcome, Verdict, CALLS, CODES_AT, LOOKS_AT};
 use crate::lie::LIES;
 use crate::measure;
@@ -398,5 +399,6 @@ fn required() -> impl Iterator<Item = &'static str> {
     let costs = [REFUSED_ZEROS, PLAIN_ZEROS].into_iter().chain(ENDS);
     let others = costs.chain(rooms).chain(spots);
     let told = measure::required().chain(next::required());
-    trace::required().chain(told).chain(others)
+    let walked = trace::required().chain(bill::required());
+    walked.chain(told).chain(others)
 }

@@ -1,6 +1,7 @@
 //! What is known of an answer without either implementation: the refusal that
 //! a case was made for, and for accepted calls a plain reading of the bytes.
 
+use crate::bill;
 use crate::case::{Call, Case, Outcome, Sizes, Verdict, CODES_AT, LOOKS_AT};
 use crate::measure::{met_by_length, met_by_room};
 use crate::next;
@@ -238,8 +239,11 @@ fn question(case: &Case, outcome: &Outcome, way: u32) -> Result<Met, String> {
             Met::new()
         });
     }
+    // Looks above a bill are other looks than the walk's as well, so the bill comes first.
+    let billed = bill::check(&outcome.numbers[LOOKS_AT], &walk.loads)?;
     costs(outcome, &walk.looks, &walk.codes)?;
     let mut met = met_by_names(names, &lists);
+    met.extend(billed);
     met.extend(lists.iter().flat_map(|list| met_by_list(list)));
     met.extend(met_by_costs(names, &walk));
     met.extend(walk.met);
@@ -300,6 +304,29 @@ mod tests {
         assert!(told(&bytes, (0, 0), 3).is_err());
         assert!(told(&bytes, (17, 0), 0).is_ok());
         assert!(told(&bytes, (17, 0), 3).is_err());
+    }
+
+    /// A question by skips about 31 blocks and three slots, its looks told so.
+    fn charged(looks: u64) -> Result<Met, String> {
+        let even: Vec<u32> = (1..=31).map(|i| 2 * i).collect();
+        let lists = [List::of(1, 0, &even), List::of(1, 0, &[16, 32, 48])];
+        let index = crate::pack::index(64, 1, &lists.map(|list| list.bytes()));
+        let mut case = Case::new("a test", Call::Ask { way: 1 }, index);
+        case.before.given = vec![0, 1];
+        case.before.slots = vec![7; 3];
+        let mut outcome = case.outcome();
+        outcome.numbers[3] = looks;
+        outcome.numbers[LOOKS_AT.start] = looks;
+        check(&case, &outcome)
+    }
+
+    #[test]
+    fn looks_are_held_to_their_bill() {
+        assert!(charged(8 + 8 + 7).is_ok());
+        // From 27 on the bill is spent, though the one for e = 0 is 65.
+        let above = "looks at position 0: 28, the bill for e = 3 is 27";
+        assert_eq!(charged(28), Err(above.to_string()));
+        assert_eq!(charged(27), Err("looks: must be 23, is 27".to_string()));
     }
 
     #[test]

@@ -1,8 +1,9 @@
 //! The walk of a question by skips, step by step as the paper tells it, with a
 //! note of what was met on the way; and what a list that is counted is like.
 
+use crate::bill::Load;
 use crate::read::Seen;
-use std::collections::BTreeSet;
+use std::collections::{BTreeMap, BTreeSet};
 
 pub const TWO_BYTES: &str = "a code of two bytes read";
 pub const THREE_BYTES: &str = "a code of three bytes read";
@@ -101,6 +102,8 @@ pub struct Walk {
     /// What each position has cost, in the order named.
     pub looks: Vec<u64>,
     pub codes: Vec<u64>,
+    /// What each position had to do, but the starting list's.
+    pub loads: BTreeMap<usize, Load>,
     pub met: BTreeSet<&'static str>,
 }
 
@@ -247,16 +250,23 @@ fn sift(walk: &mut Walk, position: usize, list: &Seen) {
         walk.met.insert(NONE_LEFT);
     }
     let mut trail = Trail::default();
+    let mut load = Load {
+        blocks: list.blocks.len() as u64,
+        ..Load::default()
+    };
     for x in std::mem::take(&mut walk.slots) {
         let holds = if x <= list.cut {
+            load.tests += 1;
             in_bits(walk, list, x)
         } else {
+            load.searches += 1;
             in_tail(walk, position, list, &mut trail, x)
         };
         if holds {
             walk.slots.push(x);
         }
     }
+    walk.loads.insert(position, load);
 }
 
 /// Whether the bit of x is set, which costs nothing.
@@ -440,6 +450,26 @@ mod tests {
         assert_eq!(walked(&lists, &[0, 1, 2]).slots, [4, 16]);
         costs(&lists, &[0, 1, 2], &[0, 10, 10], &[0, 2, 4]);
         costs(&lists, &[2, 1, 0], &[10, 10, 0], &[4, 2, 0]);
+    }
+
+    #[test]
+    fn what_positions_have_to_do() {
+        let loads = |lists: &[Seen], names: &[u32]| -> Vec<(usize, [u64; 3])> {
+            let loads = walked(lists, names).loads;
+            let told = |load: &Load| [load.tests, load.searches, load.blocks];
+            loads.iter().map(|(&at, load)| (at, told(load))).collect()
+        };
+        let lists = shelf(4, &[(0, &ZERO), (16, &ONE)]);
+        assert_eq!(loads(&lists, &[0]), []);
+        assert_eq!(loads(&lists, &[0, 1]), [(0, [0, 7, 4])]);
+        assert_eq!(loads(&lists, &[1, 1]), [(1, [4, 3, 1])]);
+        // 5 12 16 26 30 are left for list 0's second turn.
+        let again = [(0, [0, 7, 4]), (2, [0, 5, 4])];
+        assert_eq!(loads(&lists, &[0, 1, 0]), again);
+        // 3 is dropped by its bit and 5 by its search. 4 is a bit of the last list.
+        let lists = shelf(1, &[(0, &[3, 4, 5]), (3, &[2, 4, 9, 10]), (9, &ZERO)]);
+        let left = [(1, [1, 2, 3]), (2, [1, 0, 10])];
+        assert_eq!(loads(&lists, &[0, 1, 2]), left);
     }
 
     #[test]

@@ -10,6 +10,7 @@
 #![forbid(unsafe_code)]
 
 mod answer;
+mod bill;
 mod bound;
 mod bytes;
 pub mod cases;
@@ -26,11 +27,12 @@ mod seek;
 mod write;
 
 pub use answer::{Answer, Bound, Counted, Next, Part, Tested, Verdict, Written};
+pub use bill::{best, bill, Charge};
 pub use bound::bound;
 pub use close::close;
 pub use look::{look, open, Index};
 pub use program::{program, read_line};
-pub use question::{ask, count, lend, next, part, test};
+pub use question::{ask, charges, count, lend, next, part, test};
 pub use search::search;
 pub use seek::{seek, Sought};
 pub use write::write;

@@ -2,6 +2,7 @@
 //! counting a list and lending its record.
 
 use crate::answer::{Answer, Counted, Next, Part, Tested, Verdict};
+use crate::bill::Charge;
 use crate::look::{open, Index};
 use crate::record::Record;
 use crate::seek::seek;
@@ -13,6 +14,7 @@ const SKIPS: u32 = 1;
 /// What searching in the list of one position of the question has cost.
 #[derive(Clone, Copy, Default)]
 struct Cost {
+    searches: u64,
     looks: u64,
     codes: u64,
 }
@@ -101,11 +103,17 @@ fn plainly(lists: &[Record]) -> Found {
     }
 }
 
-/// The intersection by searching for the slots of the smallest list.
-fn by_skips(lists: &[Record]) -> Found {
+/// The positions in the order of their lists' counts, ties to the earlier name. The
+/// list of the first is where the candidates come from.
+fn by_count(lists: &[Record]) -> Vec<usize> {
     let mut order: Vec<usize> = (0..lists.len()).collect();
     order.sort_by_key(|&position| (lists[position].count(), position));
+    order
+}
 
+/// The intersection by searching for the slots of the smallest list.
+fn by_skips(lists: &[Record]) -> Found {
+    let order = by_count(lists);
     let mut candidates = lists[order[0]].slots();
     let mut costs = vec![Cost::default(); lists.len()];
     for &position in &order[1..] {
@@ -120,7 +128,7 @@ fn by_skips(lists: &[Record]) -> Found {
 }
 
 /// The candidates that one list holds, and what finding them has cost. A candidate
-/// is held exactly where it is itself the next slot.
+/// is held exactly where it is itself the next slot. Up to the cut it is no search.
 fn sift(list: &Record, candidates: &[u32]) -> (Vec<u32>, Cost) {
     let mut kept = Vec::new();
     let mut cost = Cost::default();
@@ -128,6 +136,7 @@ fn sift(list: &Record, candidates: &[u32]) -> (Vec<u32>, Cost) {
     for &x in candidates {
         let sought = seek(list, finger, x);
         finger = sought.finger;
+        cost.searches += u64::from(x > list.cut);
         cost.looks += sought.looks;
         cost.codes += sought.codes;
         if sought.next == x {
@@ -135,6 +144,23 @@ fn sift(list: &Record, candidates: &[u32]) -> (Vec<u32>, Cost) {
         }
     }
     (kept, cost)
+}
+
+/// What a question by skips is charged for at each position but the starting list's,
+/// in the order named. It is refused as the question is; its room is taken to be
+/// large enough.
+pub fn charges(index: &[u8], names: &[u32]) -> Result<Vec<Charge>, Verdict> {
+    let lists = judge(index, SKIPS, names, usize::MAX)?;
+    let costs = by_skips(&lists).costs;
+    let start = by_count(&lists)[0];
+    let charge = |position: usize| Charge {
+        position,
+        searches: costs[position].searches,
+        blocks: lists[position].blocks() as u64,
+        looks: costs[position].looks,
+    };
+    let others = (0..lists.len()).filter(|&position| position != start);
+    Ok(others.map(charge).collect())
 }
 
 /// The checks of every operation on one list: the index and 11.

@@ -166,27 +166,29 @@ class Show(Case):
 
 class Ask(Case):
     def test_by_skips(self):
+        # Seven slots are sought in four blocks: 7 + 2 * 4 with e 0, and 7 + 14 + 2 * 2 already with e 1.
         self.prints(0, "5 slots, 9 looks, 14 codes\n"
-                       "list 0: 9 looks, 14 codes\n"
+                       "list 0: 9 looks (at most 15: 7 searches, 4 blocks, e 0), 14 codes\n"
                        "list 1: 0 looks, 0 codes (the starting list: 7 candidates)\n"
                        "5\n12\n16\n26\n30\n", "ask", "rack.idx", "skips", "0", "1")
 
     def test_which_list_cost_what(self):
-        # In the order named, also a list that is named again; test_slots has these numbers by hand.
+        # In the order named, also a list that is named again; test_slots has these numbers by hand. Five slots come to list 0 the second time: 5 + 2 * 4.
+        # All seven come to list 1, which follows itself; three of them, 26 30 31, lie above its cut, and are sought in its one block: 3 + 2.
         self.prints(0, "5 slots, 18 looks, 28 codes\n"
                        "list 1: 0 looks, 0 codes (the starting list: 7 candidates)\n"
-                       "list 0: 9 looks, 14 codes\n"
-                       "list 0: 8 looks, 11 codes\n"
-                       "list 1: 1 look, 3 codes\n"
+                       "list 0: 9 looks (at most 15: 7 searches, 4 blocks, e 0), 14 codes\n"
+                       "list 0: 8 looks (at most 13: 5 searches, 4 blocks, e 0), 11 codes\n"
+                       "list 1: 1 look (at most 5: 3 searches, 1 block, e 0), 3 codes\n"
                        "5\n12\n16\n26\n30\n", "ask", "rack.idx", "skips", "1", "0", "0", "1")
 
     def test_the_starting_list_is_not_told_by_its_cost(self):
-        # Bits alone: no list costs anything. Of the two with one slot the one named first is the starting list.
+        # Bits alone: no list costs anything, or could. Of the two with one slot the one named first is the starting list.
         index = slots.index_of(9, 9, [slots.record(9, 9, 9, held) for held in ([1, 4], [4], [4])])
         self.prints(0, "1 slot, 0 looks, 0 codes\n"
-                       "list 0: 0 looks, 0 codes\n"
+                       "list 0: 0 looks (at most 0: 0 searches, 0 blocks, e 0), 0 codes\n"
                        "list 2: 0 looks, 0 codes (the starting list: 1 candidate)\n"
-                       "list 1: 0 looks, 0 codes\n"
+                       "list 1: 0 looks (at most 0: 0 searches, 0 blocks, e 0), 0 codes\n"
                        "4\n", "ask", self.file("bits.idx", index), "skips", "0", "2", "1")
 
     def test_plain(self):
@@ -196,13 +198,13 @@ class Ask(Case):
     def test_one_of_a_thing(self):
         self.prints(0, "7 slots, 1 look, 3 codes\n"
                        "list 1: 0 looks, 0 codes (the starting list: 7 candidates)\n"
-                       "list 1: 1 look, 3 codes\n" + "".join(f"{slot}\n" for slot in LIST_1), "ask", "rack.idx", "skips", "1", "1")
+                       "list 1: 1 look (at most 5: 3 searches, 1 block, e 0), 3 codes\n" + "".join(f"{slot}\n" for slot in LIST_1), "ask", "rack.idx", "skips", "1", "1")
         index = slots.index_of(9, 9, [slots.record(9, 9, 9, [4]), slots.record(9, 9, 9, [])])
         self.prints(0, "1 slot, 0 looks, 0 codes\n"
                        "list 0: 0 looks, 0 codes (the starting list: 1 candidate)\n"
                        "4\n", "ask", self.file("one.idx", index), "skips", "0")
         self.prints(0, "0 slots, 0 looks, 0 codes\n"
-                       "list 0: 0 looks, 0 codes\n"
+                       "list 0: 0 looks (at most 0: 0 searches, 0 blocks, e 0), 0 codes\n"
                        "list 1: 0 looks, 0 codes (the starting list: 0 candidates)\n", "ask", "one.idx", "skips", "0", "1")
 
     def test_refused(self):
@@ -261,8 +263,9 @@ class Pack(Case):
             "list  cut  count  in bits  in tail  blocks  code bytes  bytes",
             "   0   30     15       15        0       0           0     16",
             "   1   31      7        7        0       0           0     16"])
+        # Slot 31 lies above the cut of list 0: it is sought, where there is no block.
         self.prints(0, "5 slots, 0 looks, 0 codes\n"
-                       "list 0: 0 looks, 0 codes\n"
+                       "list 0: 0 looks (at most 1: 1 search, 0 blocks, e 0), 0 codes\n"
                        "list 1: 0 looks, 0 codes (the starting list: 7 candidates)\n"
                        "5\n12\n16\n26\n30\n", "ask", "new.idx", "skips", "0", "1")
 

@@ -40,6 +40,9 @@ impl Answer<'_> {
     /// One is always 0, that of the starting list: the smallest (of several smallest, or where it is
     /// named again: the one named first), whose slots are sought in the others. By the plain way all
     /// are 0.
+    ///
+    /// Where q slots are sought in a list of m blocks, there are at most q + 2qe + 2 * floor(m / 2^e)
+    /// looks, for every whole number e, 0 too. Those sought are the candidates above the list's cut.
     pub fn looks_at(&self) -> &[u64] {
         self.looks_at.as_slice()
     }

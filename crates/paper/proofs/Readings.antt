@@ -1,9 +1,9 @@
 -- The paper's other examples, and further ones for what its own do not see, as one table under one claim. The first digits of a label name
 -- its group; docs/DECISIONS.md has the reasons for the readings that they show.
-use Prim.Native.Nat.{ℕ, _+_}
+use Prim.Native.Nat.{ℕ, _+_, _*_}
 use mathlib.Core.Path.{_≡_, refl}
 use mathlib.Core.Option.{none, some}
-use mathlib.Core.List.{List, [], _∷_, _++_, flatten}
+use mathlib.Core.List.{List, [], _∷_, _++_, map, flatten}
 use lib.ListN.{length, replicate, set}
 use Rattle.paper.specs.Lists.{upFrom}
 use Rattle.paper.specs.Bytes.{u32Bytes}
@@ -83,6 +83,14 @@ rubbish = packed 32 2 (few ∷ stained ∷ [])
 -- lists 5 20, and 1 2 5 with cut 16 and no tail
 abbrev tailless : List ℕ
 tailless = packed 32 2 (encode 2 0 (5 ∷ 20 ∷ []) ∷ encode 2 16 (1 ∷ 2 ∷ 5 ∷ []) ∷ [])
+
+-- [Order 14] the even slots 2 to 62
+abbrev evens : List ℕ
+evens = map (λ i. 2 * i) (upFrom 1 31)
+
+-- a block for each slot: the even slots in 31 blocks; 16 32 48; the even slots with cut 32, in bits and 15 blocks; 31 and 32
+abbrev long : List ℕ
+long = packed 64 1 (encode 1 0 evens ∷ encode 1 0 (16 ∷ 32 ∷ 48 ∷ []) ∷ encode 1 32 evens ∷ encode 1 0 (31 ∷ 32 ∷ []) ∷ [])
 
 -- [One index in full; Examples to hold against]
 unfoldable pub paper-rows : List (ℕ × Row)
@@ -415,13 +423,26 @@ next-rows =
     (925, trying 32 2 (encode 2 0 (3 ∷ 11 ∷ 12 ∷ [])) 0 (1 ∷ 2 ∷ 3 ∷ 4 ∷ 12 ∷ 13 ∷ []) (3 ∷ 3 ∷ 3 ∷ 11 ∷ 12 ∷ 0 ∷ []) (0 ∷ 0 ∷ 1 ∷ 1 ∷ 2 ∷ 2 ∷ []) (1 ∷ 1 ∷ 2 ∷ 1 ∷ 1 ∷ 0 ∷ []) (0 ∷ 0 ∷ 0 ∷ 1 ∷ 0 ∷ 0 ∷ [])) ∷
     []
 
+-- [Order 14] Few slots sought in a long list: in 31 blocks, in 15 of a list whose cut makes bit tests of two of the three, and in both lists, one after the other;
+-- nothing but bit tests; and the slots one by one, in the 31 blocks from finger 0, from finger 8, and from one past m
+unfoldable pub bill-rows : List (ℕ × Row)
+bill-rows =
+    (1001, asking long 1 (0 ∷ 1 ∷ []) (room 3) (0 ∷ 0 ∷ 3 ∷ 23 ∷ 0 ∷ []) (23 ∷ 0 ∷ []) [] (16 ∷ 32 ∷ 48 ∷ [])) ∷
+    (1002, asking long 1 (1 ∷ 2 ∷ []) (room 3) (0 ∷ 0 ∷ 3 ∷ 7 ∷ 0 ∷ []) (0 ∷ 7 ∷ []) [] (16 ∷ 32 ∷ 48 ∷ [])) ∷
+    (1003, asking long 1 (2 ∷ 1 ∷ 0 ∷ []) (room 3) (0 ∷ 0 ∷ 3 ∷ 30 ∷ 0 ∷ []) (7 ∷ 0 ∷ 23 ∷ []) [] (16 ∷ 32 ∷ 48 ∷ [])) ∷
+    (1004, asking long 1 (2 ∷ 3 ∷ []) (room 2) (0 ∷ 0 ∷ 1 ∷ 0 ∷ 0 ∷ []) [] [] (32 ∷ 0 ∷ [])) ∷
+    (1005, trying 64 1 (encode 1 0 evens) 0 (16 ∷ 32 ∷ 48 ∷ []) (16 ∷ 32 ∷ 48 ∷ []) (8 ∷ 16 ∷ 24 ∷ []) (8 ∷ 8 ∷ 7 ∷ []) (0 ∷ 0 ∷ 0 ∷ [])) ∷
+    (1006, trying 64 1 (encode 1 0 evens) 8 (32 ∷ 63 ∷ []) (32 ∷ 0 ∷ []) (16 ∷ 31 ∷ []) (8 ∷ 7 ∷ []) (0 ∷ 0 ∷ [])) ∷
+    (1007, trying 64 1 (encode 1 0 evens) 32 (63 ∷ []) (0 ∷ []) (32 ∷ []) (0 ∷ []) (0 ∷ [])) ∷
+    []
+
 -- The one table. Its groups are computed apart, so that the check of a faulty definition names the rows that fail
 unfoldable pub readings : List (ℕ × Row)
-readings = paper-rows ++ (looking-rows ++ (search-rows ++ (asking-rows ++ (writing-rows ++ (program-rows ++ (file-rows ++ (unused-rows ++ (rubbish-rows ++ (costing-rows ++ (bounding-rows ++ next-rows))))))))))
+readings = paper-rows ++ (looking-rows ++ (search-rows ++ (asking-rows ++ (writing-rows ++ (program-rows ++ (file-rows ++ (unused-rows ++ (rubbish-rows ++ (costing-rows ++ (bounding-rows ++ (next-rows ++ bill-rows)))))))))))
 
 -- all that a claim on one of its rows opens
 unfoldable pub all-rows : ℕ
-unfolding readings paper-rows looking-rows search-rows asking-rows writing-rows program-rows file-rows unused-rows rubbish-rows costing-rows bounding-rows next-rows
+unfolding readings paper-rows looking-rows search-rows asking-rows writing-rows program-rows file-rows unused-rows rubbish-rows costing-rows bounding-rows next-rows bill-rows
 all-rows = 0
 
 paper-hold : failing paper-rows ≡ []
@@ -472,6 +493,10 @@ next-hold : failing next-rows ≡ []
 unfolding opened judged next-rows
 next-hold = refl
 
+bill-hold : failing bill-rows ≡ []
+unfolding opened judged bill-rows
+bill-hold = refl
+
 -- every row holds
 pub readings-hold : failing readings ≡ []
 unfolding readings
@@ -486,4 +511,5 @@ readings-hold =
     (joined unused-rows _ unused-hold
     (joined rubbish-rows _ rubbish-hold
     (joined costing-rows _ costing-hold
-    (joined bounding-rows next-rows bounding-hold next-hold))))))))))
+    (joined bounding-rows _ bounding-hold
+    (joined next-rows bill-rows next-hold bill-hold)))))))))))

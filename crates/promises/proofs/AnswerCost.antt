@@ -19,7 +19,8 @@ use Rattle.meaning.proofs.Common.{ordered-length, smallest-count}
 use Rattle.laws.proofs.Frames.{looked}
 use Rattle.promises.proofs.QuestionNumbers.{Passed, passed}
 use Rattle.meaning.proofs.Charging.{skips-positions}
-use Rattle.promises.proofs.SkipCost.{Visit, searchesIn, seenIn, readIn, visitsFrom, AtMost, most-total}
+use Rattle.promises.proofs.SkipCost.{Visit, searchesIn, seenIn, readIn, boundOf, visitsFrom, AtMost, most-total}
+use Rattle.promises.proofs.WalkCost.{Bounds}
 use Rattle.promises.proofs.SkipCost.{skips-seen, skips-read, skips-looks, skips-codes, visits-plain, visits-few}
 
 -- the looks charged
@@ -118,8 +119,8 @@ module _ (index names : List ℕ) (room : ℕ) (ok : askAnswer index 1 names roo
   unfolding costs
   charged-seen = skips-seen u B rs some-B sound
 
-  -- and at most one for each search and two for each block
-  pub charged-looks : AtMost (looksCharged index 1 names) (map (λ v. searchesIn v + 2 * v .list .m) (visitsOf index names))
+  -- and no more than what bounds every walk
+  pub charged-looks : (b : ℕ → ℕ → ℕ) → Bounds b → AtMost (looksCharged index 1 names) (map (boundOf b) (visitsOf index names))
   unfolding costs
   charged-looks = skips-looks u B rs some-B sound
 
@@ -134,8 +135,8 @@ module _ (index names : List ℕ) (room : ℕ) (ok : askAnswer index 1 names roo
   charged-read = skips-read u B rs some-B sound
 
   -- ALL LOOKS
-  pub looks-bound : askAnswer index 1 names room .looks ≤ total (map (λ v. searchesIn v + 2 * v .list .m) (visitsOf index names))
-  looks-bound = rw (answer-looks index 1 names room ok) (most-total _ _ charged-looks)
+  pub looks-bound : (b : ℕ → ℕ → ℕ) → Bounds b → askAnswer index 1 names room .looks ≤ total (map (boundOf b) (visitsOf index names))
+  looks-bound b h = rw (answer-looks index 1 names room ok) (most-total _ _ (charged-looks b h))
 
   -- and all codes
   pub codes-bound : askAnswer index 1 names room .codes ≤ (B - 1) * total (map searchesIn (visitsOf index names))
@@ -152,8 +153,9 @@ module _ (index names : List ℕ) (room : ℕ) (ok : askAnswer index 1 names roo
   first-count = let e = smallest-count u B some-B rs sound some in omega arith
 
   -- With as many searches in each list as the smallest list has slots: the looks
-  pub looks-plain : askAnswer index 1 names room .looks ≤ total (map (λ r. smallest rs + 2 * listed u B r .m) others)
-  looks-plain = le-trans looks-bound (most-total _ _ (visits-plain u B (smallest rs) others firsts first-count))
+  pub looks-plain : (b : ℕ → ℕ → ℕ) → Bounds b → ((q m : ℕ) → q ≤ smallest rs → b q m ≤ b (smallest rs) m)
+      → askAnswer index 1 names room .looks ≤ total (map (λ r. b (smallest rs) (listed u B r .m)) others)
+  looks-plain b h g = le-trans (looks-bound b h) (most-total _ _ (visits-plain u B (smallest rs) b g others firsts first-count))
 
   -- and the codes
   pub codes-plain : askAnswer index 1 names room .codes ≤ (B - 1) * (smallest rs * (length names - 1))

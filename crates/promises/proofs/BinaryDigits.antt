@@ -1,8 +1,8 @@
 -- How many binary digits a number has, and that powers of two tell it.
-use Prim.Native.Nat.{ℕ, zero, suc, _-_, _*_, _/_, _^_, _≤_, _<_}
-use mathlib.Core.Path.{_≡_, refl}
+use Prim.Native.Nat.{ℕ, zero, suc, _+_, _-_, _*_, _/_, _^_, _≤_, _<_}
+use mathlib.Core.Path.{_≡_, refl, sym, ap, _∙_}
 use native.Mathlib.Decide.{decLe}
-use native.Mathlib.Nat.{le-refl, pow-le-pow-right}
+use native.Mathlib.Nat.{le-refl, pow-le-pow-right, pow-succ', div-one, div-div-eq-div-mul}
 use native.Mathlib.Numerals.{sub-one}
 use native.Mathlib.Omega.{arith}
 use lib.Dec.{ltb}
@@ -60,10 +60,6 @@ pub digits-none : digits 0 ≡ 0
 unfolding digits digitsF
 digits-none = refl
 
--- at most as many as n
-pub digits-few : (n : ℕ) → digits n ≤ n
-digits-few n = digits-told n .few
-
 -- n is below 2 to the power of its digits
 pub digits-below : (n : ℕ) → n < 2 ^ digits n
 digits-below n = digits-told n .below
@@ -83,3 +79,24 @@ digits-over k n h = go (decLe (digits n) k)
     go : Dec (digits n ≤ k) → k < digits n
     go (yes l) = let p : 2 ^ digits n ≤ 2 ^ k = pow-le-pow-right (omega arith) l in let b = digits-below n in absurd (omega arith)
     go (no g) = omega arith
+
+-- [Order 14] n without its last e digits, halved once more
+halves : (e n : ℕ) → n / 2 / 2 ^ e ≡ n / 2 ^ suc e
+halves e n = div-div-eq-div-mul n 2 (2 ^ e) ∙ ap (λ (k : ℕ). n / k) (sym (pow-succ' 2 e))
+
+digitsF-shift : (e f n : ℕ) → n ≤ f → digitsF f n ≤ e + n / 2 ^ e
+digitsF-shift zero f n h = let t = digitsF-told f n h in rw div-one (omega arith)
+digitsF-shift (suc e) zero n h = rw (digitsF-none zero n h) (omega arith)
+digitsF-shift (suc e) (suc f) n h =
+    elim (decLe n 0) [
+      | yes z ↦ rw (digitsF-none (suc f) n z) (omega arith)
+      | no g ↦
+          let i = digitsF-shift e f (n / 2) (omega arith) in
+          let q = halves e n in
+          rw (digitsF-some f n (omega arith)) (omega arith)
+    ]
+
+-- n has at most e digits more than there are 2 to the power of e in it
+pub digits-shift : (e n : ℕ) → digits n ≤ e + n / 2 ^ e
+unfolding digits
+digits-shift e n = digitsF-shift e n n (le-refl n)

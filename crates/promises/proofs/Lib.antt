@@ -44,6 +44,7 @@ pub mod SearchFinds
 pub mod FoundOrNot
 pub mod BinaryDigits
 pub mod SearchCost
+pub mod Bills
 pub mod WalkCost
 pub mod SeekCodes
 pub mod SkipCost
@@ -51,6 +52,7 @@ pub mod AnswerCost
 pub mod Positions
 pub mod PlaceSums
 pub mod PlaceCosts
+pub mod BillExamples
 pub mod SkipOrder
 pub mod LengthAnswers
 pub mod Writing

@@ -25,9 +25,9 @@ use Rattle.meaning.proofs.Sound.{contents-rise}
 use Rattle.meaning.proofs.Orders.{Before, order-rise}
 use Rattle.meaning.proofs.Walking.{passed, passed-all, keep-rise}
 use Rattle.meaning.proofs.Common.{positions-length, position-has, position-inside, position-once, ordered-length, ordered-at, ordered-sound, in-each, each-in}
-use Rattle.promises.proofs.QuestionNumbers.{Passed}
+use Rattle.promises.proofs.QuestionNumbers.{Passed, same-rising}
 use Rattle.promises.proofs.QuestionAlike.{never}
-use Rattle.promises.proofs.WalkCost.{searches, walkedOver, allowed, walk-seen, walk-looks-all, walk-allowed}
+use Rattle.promises.proofs.WalkCost.{searches, walkedOver, allowed, OfWalks, walk-seen, walk-allowed}
 use Rattle.promises.proofs.SeekCodes.{readOver, walk-read, walk-codes}
 use Rattle.promises.proofs.SkipCost.{Visit, visits, seenIn, readIn}
 use Rattle.promises.proofs.AnswerCost as answer
@@ -94,6 +94,12 @@ pub record Spent (index names : List ℕ) (room i : ℕ) : Type 0 where
   pub come : (x : ℕ) → In x candidates ↔ ((j : ℕ) → j < length names → Before (sizes index names) j i → In x (held index (getD names j 0)))
   pub looks : getD (askAnswer index 1 names room .looks16) i 0 ≡ length (walkedOver (listAt index names i) 0 candidates)
   pub codes : getD (askAnswer index 1 names room .codes16) i 0 ≡ readOver (listAt index names i) 0 candidates
+
+-- its candidates are settled: being the slots of these lists, they are the same wherever they are told
+pub spent-one : (index names : List ℕ) (room i : ℕ) (s t : Spent index names room i) → s .candidates ≡ t .candidates
+spent-one index names room i s t =
+    same-rising (uOf index) (uOf index) (s .candidates) (t .candidates) (s .rise) (t .rise)
+    λ x. (λ h. t .come x .1 (s .come x .0 h), λ h. s .come x .1 (t .come x .0 h))
 
 -- THE VISITS, one by one: to each come the candidates that all lists before it hold
 no-visit : Visit
@@ -370,9 +376,10 @@ module _ (index names : List ℕ) (room : ℕ) (ok : askAnswer index 1 names roo
     walked : getD (askAnswer index 1 names room .looks16) i 0 ≡ walkList (listAt index names i) 0 (s .candidates) .looks
     walked = s .looks ∙ sym (walk-seen (listAt index names i) 0 (s .candidates))
 
-    -- one look for each search and two for each block
-    pub spent-looks : getD (askAnswer index 1 names room .looks16) i 0 ≤ searches (listAt index names i) (s .candidates) + 2 * listAt index names i .m
-    spent-looks = rw walked (walk-looks-all (listAt index names i) (s .candidates))
+    -- its looks are such as those of every walk are
+    pub spent-looks : (R : ℕ → ℕ → ℕ → Type 0) → OfWalks R
+        → R (getD (askAnswer index 1 names room .looks16) i 0) (searches (listAt index names i) (s .candidates)) (listAt index names i .m)
+    spent-looks R h = rw walked (h (listAt index names i) (s .candidates))
 
     -- and for each search what its digits allow
     pub spent-digits : getD (askAnswer index 1 names room .looks16) i 0 ≤ allowed (listAt index names i) 0 (s .candidates)

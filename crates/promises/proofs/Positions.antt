@@ -1,8 +1,8 @@
 -- WHAT IS PROMISED of what each list of a question cost [Order 2]. Every statement has a name and its meaning in plain words; the line behind it is its
 -- proof, which cites other files. Beside this file a reader needs, of crate paper, the answer (Ask), and here the words that the statements are put in:
--- PlaceCosts (listAt, Spent), SkipOrder (sizes), WalkCost (searches, walkedOver, allowed, allowance), SeekCodes (readOver), QuestionExamples (Charges); of crate
--- meaning, Orders (Before) and Rising (Ascends); of laws, Lists (In). A position is that of a name in the question as it was asked, counted from 0.
-use Prim.Native.Nat.{ℕ, _+_, _-_, _*_, _≤_, _<_}
+-- PlaceCosts (listAt, Spent), SkipOrder (sizes), WalkCost (searches, walkedOver, allowed, allowance), Bills (bill), SeekCodes (readOver), QuestionExamples (Charges),
+-- BillExamples (long, both); of crate meaning, Orders (Before) and Rising (Ascends); of laws, Lists (In). A position is that of a name in the question as it was asked, counted from 0.
+use Prim.Native.Nat.{ℕ, _+_, _-_, _*_, _/_, _^_, _≤_, _<_}
 use mathlib.Core.Path.{_≡_, refl, sym, ap, _∙_}
 use mathlib.Core.List.{List, [], _∷_}
 use native.Mathlib.Omega.{arith}
@@ -12,6 +12,7 @@ use Rattle.paper.specs.Index.{blockLength}
 use Rattle.paper.specs.Ask.{askAnswer, MeetsAsk}
 use Rattle.paper.specs.declared.Answer.{Answer}
 use Rattle.paper.proofs.Hex.{index, slots1}
+use Rattle.paper.proofs.Open.{opened}
 use Rattle.paper.proofs.Rows.{room}
 use Rattle.paper.proofs.Table.{table}
 use Rattle.paper.proofs.Readings.{all-rows}
@@ -19,11 +20,14 @@ use Rattle.meaning.proofs.Orders.{Before}
 use Rattle.promises.proofs.ExampleRows.{labelled}
 use Rattle.promises.proofs.QuestionExamples as examples
 use Rattle.promises.proofs.QuestionExamples.{Charges}
-use Rattle.promises.proofs.WalkCost.{searches, allowed}
+use Rattle.promises.proofs.WalkCost.{searches, allowed, bill-bounds, spare-walks}
+use Rattle.promises.proofs.Bills.{bill, bill-old}
 use Rattle.promises.proofs.SkipOrder.{sizes}
 use Rattle.promises.proofs.PlaceSums as sums
 use Rattle.promises.proofs.PlaceCosts as places
 use Rattle.promises.proofs.PlaceCosts.{listAt, Spent}
+use Rattle.promises.proofs.BillExamples as bills
+use Rattle.promises.proofs.BillExamples.{long, both}
 
 -- of every question, accepted or refused, by any way
 abbrev pub OfAnswers : (List ℕ → Answer → Type 0) → Type 0
@@ -85,7 +89,24 @@ PlaceSpent = OfPositions λ index names room i. (s : ℕ) → s < length names �
 pub place-spent : PlaceSpent
 place-spent = places.spent
 
--- There the looks are at most q + 2m, for q searches in a list of m blocks: demand 3, position by position.
+-- [Order 14] Which candidates these are is settled by the question, and so is how many of them are searched for.
+abbrev pub OneSpent : Type 0
+OneSpent = (index names : List ℕ) (room i : ℕ) (s t : Spent index names room i) → s .candidates ≡ t .candidates
+
+pub one-spent : OneSpent
+one-spent = places.spent-one
+
+-- [Order 14] There the looks are at most q + 2qe + 2 · floor(m / 2^e), for q searches in a list of m blocks: for every e.
+abbrev pub PlaceBill : Type 0
+PlaceBill =
+    OfPositions λ index names room i.
+    (s : Spent index names room i) (e : ℕ)
+    → getD (askAnswer index 1 names room .looks16) i 0 ≤ bill e (searches (listAt index names i) (s .candidates)) (listAt index names i .m)
+
+pub place-bill : PlaceBill
+place-bill index names room ok i l s e = places.spent-looks index names room ok i l s (λ n q m. n ≤ bill e q m) (bill-bounds (λ q m. e))
+
+-- With e = 0 that is q + 2m: demand 3, position by position.
 abbrev pub PlaceLooks : Type 0
 PlaceLooks =
     OfPositions λ index names room i.
@@ -93,7 +114,21 @@ PlaceLooks =
     → getD (askAnswer index 1 names room .looks16) i 0 ≤ searches (listAt index names i) (s .candidates) + 2 * listAt index names i .m
 
 pub place-looks : PlaceLooks
-place-looks = places.spent-looks
+place-looks index names room ok i l s = rw bill-old at (place-bill index names room ok i l s 0)
+
+-- [Order 14] Where something is searched for, no bill is quite reached; and where e is not 0, q looks are to spare besides.
+abbrev pub PlaceSpare : Type 0
+PlaceSpare =
+    OfPositions λ index names room i.
+    (s : Spent index names room i) (e : ℕ)
+    → let looks = getD (askAnswer index 1 names room .looks16) i 0 in
+    let q = searches (listAt index names i) (s .candidates) in
+    let m = listAt index names i .m in
+    0 < q → (looks < bill e q m) × (0 < e → looks + q < bill e q m)
+
+pub place-spare : PlaceSpare
+place-spare index names room ok i l s e =
+    places.spent-looks index names room ok i l s (λ n q m. 0 < q → (n < bill e q m) × (0 < e → n + q < bill e q m)) (spare-walks e)
 
 -- They are also at most what the searches there may cost one by one: two for each binary digit of the blocks that a search moves on by, one where it stays.
 abbrev pub PlaceDigits : Type 0
@@ -144,6 +179,20 @@ paper-places = (
   examples.in-readings 705 .asked _ _ _ _ _ _ _ _ refl .1,
   examples.in-table 4 .asked _ _ _ _ _ _ _ _ refl .1,
 )
+
+-- [Order 14] FEW SLOTS IN A LONG LIST. `long`, in BillExamples, has a block for each slot: the even slots 2 to 62 in list 0, and 16 32 48 in list 1. By skips
+-- these three are searched for in the 31 blocks, and cost 23 looks. The least bill of all is 27, with e = 3; q + 2m is 65. No three searches can come nearer to a
+-- bill of 27 with e = 3 than that, by PlaceSpare.
+abbrev pub BillSharper : Type 0
+BillSharper =
+    Charges long 1 both (room 3) (23 ∷ 0 ∷ []) []
+    × ((s : Spent long both 3 0) → searches (listAt long both 0) (s .candidates) ≡ 3)
+    × (listAt long both 0 .m ≡ 31)
+    × (bill 3 3 31 ≡ 27) × ((e : ℕ) → 27 ≤ bill e 3 31) × (3 + 2 * 31 ≡ 65)
+
+pub bill-sharper : BillSharper
+unfolding all-rows labelled opened
+bill-sharper = (examples.in-readings 1001 .asked _ _ _ _ _ _ _ _ refl .1, bills.long-searches, refl, refl, bills.long-least, refl)
 
 -- NO USELESS PROGRAM
 

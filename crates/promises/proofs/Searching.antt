@@ -2,13 +2,15 @@
 -- proof, which cites other files. Beside this file a reader needs, of crate paper, the search itself and what is searched (Search, Held,
 -- Walk, Question, Ask), and here the words that the statements are put in: SearchDoubling (doublings, lastGood, sees, GoodSoFar),
 -- SearchLooks (Agree, Once), NextSlots (NextOf), SearchFinds (entryAt), FoundOrNot (foundWalk, foundCharges, Apart),
--- BinaryDigits (digits), WalkCost (searches, searchOf, lookedAt, walkedOver, allowance, allowed), SeekCodes (below,
--- blockOf, toRead, readOver), SkipCost (visits, searchesIn, seenIn, readIn, AtMost), AnswerCost (looksCharged, codesCharged, visitsOf), and for the
+-- BinaryDigits (digits), Bills (bill, billBy), WalkCost (searches, searchOf, lookedAt, walkedOver, allowance, allowed), SeekCodes (below,
+-- blockOf, toRead, readOver), SkipCost (visits, searchesIn, seenIn, readIn, boundOf, AtMost), AnswerCost (looksCharged, codesCharged, visitsOf), and for the
 -- order of the lists QuestionAlike (InOrder) and SkipOrder (sizes, visitsIn).
-use Prim.Native.Nat.{ℕ, suc, _+_, _-_, _*_, _^_, _≤_, _<_, min}
+use Prim.Native.Nat.{ℕ, suc, _+_, _-_, _*_, _/_, _^_, _≤_, _<_, min}
 use mathlib.Core.Path.{_≡_}
 use mathlib.Core.Logic.{_⊎_}
 use mathlib.Core.List.{List, [], _∷_, map}
+use native.Mathlib.Nat.{le-refl}
+use native.Mathlib.Omega.{arith}
 use lib.Dec.{eqb}
 use lib.ListN.{length, drop, replicate}
 use Rattle.paper.specs.Lists.{has, keep, total}
@@ -31,8 +33,8 @@ use Rattle.promises.proofs.SearchLooks.{Agree, Once, search-same, searc
 use Rattle.promises.proofs.SearchFinds as finds
 use Rattle.promises.proofs.SearchFinds.{entryAt}
 use Rattle.promises.proofs.FoundOrNot.{Apart, foundWalk, foundCharges, walk-alike, charges-alike}
-use Rattle.promises.proofs.BinaryDigits.{digits, digits-none, digits-below, digits-from}
-use Rattle.promises.proofs.SearchCost.{search-cost}
+use Rattle.promises.proofs.BinaryDigits.{digits, digits-none, digits-below, digits-from, digits-shift}
+use Rattle.promises.proofs.SearchCost.{search-cost, search-priced, search-reach, billed}
 use Rattle.promises.proofs.WalkCost.{
   searches,
   searchOf,
@@ -41,12 +43,18 @@ use Rattle.promises.proofs.WalkCost.{
   allowed,
   try-looks,
   walk-seen,
+  walk-ahead,
+  walk-bill,
+  walk-below,
+  walk-spare,
   walk-looks,
-  walk-looks-all,
+  bill-bounds,
+  old-bounds,
   walk-allowed,
 }
+use Rattle.promises.proofs.Bills.{bill, billBy, oldBill, bill-grows, bill-first, bill-capped}
 use Rattle.promises.proofs.SeekCodes.{below, blockOf, seek-codes, try-codes, try-few, walk-codes}
-use Rattle.promises.proofs.SkipCost.{searchesIn, seenIn, readIn, AtMost}
+use Rattle.promises.proofs.SkipCost.{searchesIn, seenIn, readIn, boundOf, AtMost}
 use Rattle.promises.proofs.AnswerCost.{looksCharged, codesCharged, visitsOf}
 use Rattle.promises.proofs.AnswerCost as answer
 use Rattle.promises.proofs.SkipOrder.{sizes, visitsIn}
@@ -281,20 +289,78 @@ SearchLooksFew =
 pub search-looks-few : SearchLooksFew
 search-looks-few s x m p = (search-cost s x m p .moved, search-cost s x m p .stayed)
 
--- Candidates of which q are searched for in a list of m blocks, the finger starting at 0 and carried on, cost at most q + 2m looks in all: in any
--- list, whatever the candidates and their order.
+-- [Order 14] For every e, d has at most e digits more than 2 to the power of e goes into it.
+abbrev pub DigitsShifted : Type 0
+DigitsShifted = (e d : ℕ) → digits d ≤ e + d / 2 ^ e
+
+pub digits-shifted : DigitsShifted
+digits-shifted = digits-shift
+
+-- [Order 14] So the search costs at most 1 + 2e + 2 · floor(d / 2^e) looks, also where d is 0.
+abbrev pub SearchBill : Type 0
+SearchBill = OfSearches λ s x m p. (e : ℕ) → looksOf (searched s x m p) ≤ bill e 1 (searched s x m p .j - p)
+
+pub search-bill : SearchBill
+search-bill s x m p e = let h = search-priced s x m p e (1 + 2 * e) (billed e) in omega arith
+
+-- [Order 14] THE BILL. Candidates of which q are searched for in a list of m blocks, the finger carried on, cost at most q + 2qe + 2 · floor(m / 2^e) looks in
+-- all: for every e, in any list, whatever the candidates and their order, and wherever the finger is to begin with.
+abbrev pub WalkBill : Type 0
+WalkBill = (l : Listed) (xs : List ℕ) (e p : ℕ) → walkList l p xs .looks ≤ bill e (searches l xs) (l .m)
+
+pub walks-billed : WalkBill
+walks-billed = walk-bill
+
+-- [Order 14] Of the m blocks only those ahead of the finger count; past m there is none.
+abbrev pub WalkBillAhead : Type 0
+WalkBillAhead = (l : Listed) (xs : List ℕ) (e p : ℕ) → walkList l p xs .looks ≤ bill e (searches l xs) (l .m - p)
+
+pub walks-billed-ahead : WalkBillAhead
+walks-billed-ahead = walk-ahead
+
+-- [Order 14] HOW NEAR. Where something lies ahead of the finger, a search costs less than two looks for each binary digit of what lies ahead.
+abbrev pub SearchLooksAhead : Type 0
+SearchLooksAhead = OfSearches λ s x m p. p < m → looksOf (searched s x m p) < 2 * digits (m - p)
+
+pub search-looks-ahead : SearchLooksAhead
+search-looks-ahead = search-reach
+
+-- [Order 14] So no bill is quite reached where something is searched for; and where e is not 0, one look of each search is to spare besides.
+abbrev pub WalkSpare : Type 0
+WalkSpare =
+    (l : Listed) (xs : List ℕ) (e p : ℕ) → 0 < searches l xs
+    → (walkList l p xs .looks < bill e (searches l xs) (l .m - p)) × (0 < e → walkList l p xs .looks + searches l xs < bill e (searches l xs) (l .m - p))
+
+pub walks-spare : WalkSpare
+walks-spare l xs e p n = (walk-below l xs e p n, walk-spare l xs e p n)
+
+-- [Order 14] WHICH e. The bill is least with the first e for which 2 to the power of e goes into m at most 2q times: up to there it falls, and then it grows.
+abbrev pub BillBest : Type 0
+BillBest = (e q m : ℕ) → m / 2 ^ e ≤ 2 * q → ((f : ℕ) → f < e → 2 * q < m / 2 ^ f) → (f : ℕ) → bill e q m ≤ bill f q m
+
+pub bill-best : BillBest
+bill-best e q m = bill-first q m e
+
+-- [Order 14] So nothing is gained above the digits of m, where it goes into m no more: any other e may be exchanged for that number of digits.
+abbrev pub BillLeast : Type 0
+BillLeast = (e q m : ℕ) → bill (min e (digits m)) q m ≤ bill e q m
+
+pub bill-least : BillLeast
+bill-least = bill-capped
+
+-- The bill with e = 0, from finger 0 on: at most q + 2m looks in all.
 abbrev pub WalkLooksFew : Type 0
 WalkLooksFew = (l : Listed) (xs : List ℕ) → walkList l 0 xs .looks ≤ searches l xs + 2 * l .m
 
 pub walk-looks-few : WalkLooksFew
-walk-looks-few = walk-looks-all
+walk-looks-few = old-bounds
 
 -- With the finger at p to begin with, only the blocks ahead of it count.
 abbrev pub WalkLooksFrom : Type 0
 WalkLooksFrom = (l : Listed) (xs : List ℕ) (p : ℕ) → p ≤ l .m → walkList l p xs .looks ≤ searches l xs + 2 * (l .m - p)
 
 pub walk-looks-from : WalkLooksFrom
-walk-looks-from = walk-looks
+walk-looks-from l xs p h = walk-looks l xs p
 
 -- And no walk costs more than its searches may cost one by one: two for each binary digit of the blocks that a search moves on by, one where it stays.
 abbrev pub WalkLooksDigits : Type 0
@@ -361,12 +427,22 @@ charged-in-order index names room ok os o = (
   ordered.codes-ordered index names room ok os o,
 )
 
--- The looks charged are at most q + 2m, for q searches in a list of m blocks.
+-- [Order 14] The looks charged are at most q + 2qe + 2 · floor(m / 2^e), for q searches in a list of m blocks, whatever e is chosen for that q and m: each list
+-- may have the one that is best for it.
+abbrev pub ChargedBill : Type 0
+ChargedBill =
+    OfSkips λ index names room.
+    (e : ℕ → ℕ → ℕ) → AtMost (looksCharged index 1 names) (map (boundOf (billBy e)) (visitsOf index names))
+
+pub charged-bill : ChargedBill
+charged-bill index names room ok e = answer.charged-looks index names room ok (billBy e) (bill-bounds e)
+
+-- With e = 0: at most q + 2m.
 abbrev pub ChargedLooks : Type 0
 ChargedLooks = OfSkips λ index names room. AtMost (looksCharged index 1 names) (map (λ v. searchesIn v + 2 * v .list .m) (visitsOf index names))
 
 pub charged-looks : ChargedLooks
-charged-looks = answer.charged-looks
+charged-looks index names room ok = answer.charged-looks index names room ok oldBill old-bounds
 
 -- The codes charged: no more than B − 1 for one search.
 abbrev pub ChargedCodes : Type 0
@@ -375,7 +451,16 @@ ChargedCodes = OfSkips λ index names room. AtMost (codesCharged index 1 names) 
 pub charged-codes : ChargedCodes
 charged-codes = answer.charged-codes
 
--- Summed up: an answer's looks do not pass q + 2m, added over all names but the smallest list's, and its codes do not pass B − 1 a search.
+-- [Order 14] Summed up: an answer's looks do not pass the bills of all names but the smallest list's, whatever e is chosen for each.
+abbrev pub AnswerBill : Type 0
+AnswerBill =
+    OfSkips λ index names room.
+    (e : ℕ → ℕ → ℕ) → askAnswer index 1 names room .looks ≤ total (map (boundOf (billBy e)) (visitsOf index names))
+
+pub answer-bill : AnswerBill
+answer-bill index names room ok e = answer.looks-bound index names room ok (billBy e) (bill-bounds e)
+
+-- And with e = 0: an answer's looks do not pass q + 2m, added over all names but the smallest list's, and its codes do not pass B − 1 a search.
 abbrev pub AnswerCosts : Type 0
 AnswerCosts =
     OfSkips λ index names room.
@@ -383,7 +468,7 @@ AnswerCosts =
     × (askAnswer index 1 names room .codes ≤ (blockLength index - 1) * total (map searchesIn (visitsOf index names)))
 
 pub answer-costs : AnswerCosts
-answer-costs index names room ok = (answer.looks-bound index names room ok, answer.codes-bound index names room ok)
+answer-costs index names room ok = (answer.looks-bound index names room ok oldBill old-bounds, answer.codes-bound index names room ok)
 
 -- With no walk in sight: where the smallest list has n slots, each further list costs at most n + 2m looks and (B − 1) n codes.
 abbrev pub AnswerCostsPlain : Type 0
@@ -394,7 +479,21 @@ AnswerCostsPlain =
     × (askAnswer index 1 names room .codes ≤ (blockLength index - 1) * (smallest rs * (length names - 1)))
 
 pub answer-costs-plain : AnswerCostsPlain
-answer-costs-plain index names room ok = (answer.looks-plain index names room ok, answer.codes-plain index names room ok)
+answer-costs-plain index names room ok = (
+  answer.looks-plain index names room ok oldBill old-bounds (λ q m h. omega arith),
+  answer.codes-plain index names room ok,
+)
+
+-- [Order 14] And by the bill, for every e: before a question is asked, the counts and the blocks of its lists tell what it may cost.
+abbrev pub AnswerBillPlain : Type 0
+AnswerBillPlain =
+    OfSkips λ index names room.
+    let rs = named index names in
+    (e : ℕ) → askAnswer index 1 names room .looks ≤ total (map (λ r. bill e (smallest rs) (listed (uOf index) (blockLength index) r .m)) (drop 1 (inOrder rs)))
+
+pub answer-bill-plain : AnswerBillPlain
+answer-bill-plain index names room ok e =
+    answer.looks-plain index names room ok (bill e) (bill-bounds (λ q m. e)) (λ q m h. bill-grows e q _ m m h (le-refl m))
 
 -- Plainly nothing is charged, and there are no looks and no codes, in sum and in each of the sixteen places, accepted or refused.
 abbrev pub PlainFree : Type 0

@@ -16,7 +16,7 @@ use Rattle.meaning.proofs.Sound.{contents-rise}
 use Rattle.meaning.proofs.Walking.{AllSound, keep-rise, walk-keeps}
 use Rattle.meaning.proofs.Common.{ordered-sound}
 use Rattle.meaning.proofs.Charging.{charge, skips-charged}
-use Rattle.promises.proofs.WalkCost.{searches, walk-looks, walkedOver, walk-seen}
+use Rattle.promises.proofs.WalkCost.{searches, Bounds, walkedOver, walk-seen}
 use Rattle.promises.proofs.SeekCodes.{readOver, walk-read, walk-codes}
 
 -- a list, and the candidates that come to it
@@ -35,6 +35,10 @@ seenIn v = walkedOver (v .list) 0 (v .candidates)
 -- the codes read
 abbrev pub readIn : Visit → ℕ
 readIn v = readOver (v .list) 0 (v .candidates)
+
+-- what b tells of a visit, by its searches and its blocks
+abbrev pub boundOf : (ℕ → ℕ → ℕ) → Visit → ℕ
+boundOf b v = b (searchesIn v) (v .list .m)
 
 -- Candidates xs, and the records that they go through one after the other. To each come the candidates that all lists before it hold
 unfoldable pub visits : ℕ → ℕ → List ℕ → List (List ℕ) → List Visit
@@ -84,14 +88,12 @@ module _ (u B : ℕ) (pos : 1 ≤ B) where
       ap (λ (t : List ℕ). w ∷ walks (map (listed u B) rs) t) e
       ∙ ap (λ (t : List Walk). w ∷ t) (walks-visits rs (λ i l. ok (suc i) (omega arith)) k (keep-rise _ u 0 xs o))
 
-  -- THE LOOKS of each: one for each search, and two for each block
-  visits-looks : (rs : List (List ℕ)) (xs : List ℕ)
-      → AtMost (map looksIn (map walkOf (visits u B xs rs))) (map (λ v. searchesIn v + 2 * v .list .m) (visits u B xs rs))
+  -- THE LOOKS of each: no more than what bounds every walk
+  visits-looks : (b : ℕ → ℕ → ℕ) → Bounds b → (rs : List (List ℕ)) (xs : List ℕ)
+      → AtMost (map looksIn (map walkOf (visits u B xs rs))) (map (boundOf b) (visits u B xs rs))
   unfolding visits
-  visits-looks [] xs = tt
-  visits-looks (r ∷ rs) xs =
-      let l = walk-looks (listed u B r) xs 0 (omega arith) in
-      (omega arith, visits-looks rs (keep (λ x. has x (contents u B r)) xs))
+  visits-looks b h [] xs = tt
+  visits-looks b h (r ∷ rs) xs = (h (listed u B r) xs, visits-looks b h rs (keep (λ x. has x (contents u B r)) xs))
 
   -- the codes of each are those read
   visits-read : (rs : List (List ℕ)) → AllSound u B rs → (xs : List ℕ) → map codesIn (map walkOf (visits u B xs rs)) ≡ map readIn (visits u B xs rs)
@@ -130,9 +132,9 @@ module _ (u B : ℕ) (rs : List (List ℕ)) where
     pub skips-seen : map (λ (c : Charge). c .looks) (bySkips u B rs) ≡ map (λ v. length (seenIn v)) visitsFrom
     skips-seen = skips-walks (λ c. c .looks) looksIn (λ i w. refl) ∙ seen-looks visitsFrom
 
-    -- at most one for each search, and two for each block
-    pub skips-looks : AtMost (map (λ (c : Charge). c .looks) (bySkips u B rs)) (map (λ v. searchesIn v + 2 * v .list .m) visitsFrom)
-    skips-looks = rw (skips-walks (λ c. c .looks) looksIn (λ i w. refl)) (visits-looks u B pos (drop 1 (inOrder rs)) _)
+    -- no more than what bounds every walk
+    pub skips-looks : (b : ℕ → ℕ → ℕ) → Bounds b → AtMost (map (λ (c : Charge). c .looks) (bySkips u B rs)) (map (boundOf b) visitsFrom)
+    skips-looks b h = rw (skips-walks (λ c. c .looks) looksIn (λ i w. refl)) (visits-looks u B pos b h (drop 1 (inOrder rs)) _)
 
     others : AllSound u B (drop 1 (inOrder rs))
     others i l = let e = length-drop 1 (inOrder rs) in rw getD-drop (ordered-sound u B pos rs ok (1 + i) (omega arith))
@@ -150,14 +152,14 @@ few-searches : (l : Listed) (xs : List ℕ) → searches l xs ≤ length xs
 few-searches l xs = keep-length (λ x. ltb (l .cut) x) xs
 
 -- so n candidates at first are at most n in each list
-pub visits-plain : (u B n : ℕ) (rs : List (List ℕ)) (xs : List ℕ) → length xs ≤ n
-    → AtMost (map (λ v. searchesIn v + 2 * v .list .m) (visits u B xs rs)) (map (λ r. n + 2 * listed u B r .m) rs)
+pub visits-plain : (u B n : ℕ) (b : ℕ → ℕ → ℕ) → ((q m : ℕ) → q ≤ n → b q m ≤ b n m) → (rs : List (List ℕ)) (xs : List ℕ) → length xs ≤ n
+    → AtMost (map (boundOf b) (visits u B xs rs)) (map (λ r. b n (listed u B r .m)) rs)
 unfolding visits
-visits-plain u B n [] xs h = tt
-visits-plain u B n (r ∷ rs) xs h =
+visits-plain u B n b g [] xs h = tt
+visits-plain u B n b g (r ∷ rs) xs h =
     let k = keep-length (λ x. has x (contents u B r)) xs in
     let s = few-searches (listed u B r) xs in
-    (omega arith, visits-plain u B n rs (keep (λ x. has x (contents u B r)) xs) (omega arith))
+    (g _ _ (omega arith), visits-plain u B n b g rs (keep (λ x. has x (contents u B r)) xs) (omega arith))
 
 -- and n times the lists in all
 pub visits-few : (u B n : ℕ) (rs : List (List ℕ)) (xs : List ℕ) → length xs ≤ n → total (map searchesIn (visits u B xs rs)) ≤ n * length rs

@@ -1,8 +1,9 @@
 -- The looks of a walk of candidates through one list: they are the positions looked at, and few.
-use Prim.Native.Nat.{ℕ, _+_, _-_, _*_, _≤_, _<_}
+use Prim.Native.Nat.{ℕ, zero, suc, _+_, _-_, _*_, _/_, _^_, _≤_, _<_}
 use mathlib.Core.Path.{_≡_, refl, ap}
 use mathlib.Core.List.{List, [], _∷_, _++_}
 use native.Mathlib.Decide.{decLe, ℕ-discrete}
+use native.Mathlib.Nat.{le-trans, le-refl, sub-zero}
 use native.Mathlib.Omega.{arith}
 use lib.Dec.{ltb, leb, eqb}
 use lib.ListN.{length, length-append}
@@ -10,12 +11,12 @@ use borrow.Author.Tests.{lt-ltb, le-ltb, le-leb, lt-leb, eq-eqb, ne-eqb}
 use Rattle.paper.specs.Lists.{pick, keep}
 use Rattle.paper.specs.Held.{Listed, entryOf}
 use Rattle.paper.specs.Search.{Sought, looksOf, searched}
-use Rattle.paper.specs.Walk.{Try, tried, walkList}
+use Rattle.paper.specs.Walk.{tried, walkList}
 use Rattle.laws.proofs.Lists.{keep-pass, keep-fail}
-use Rattle.laws.proofs.Searches.{search-from, search-below}
 use Rattle.meaning.proofs.Trying.{try-bit, try-search}
-use Rattle.promises.proofs.SearchCost.{search-cost, search-linear}
+use Rattle.promises.proofs.SearchCost.{Enough, billed, search-cost, search-priced, search-ahead, search-under}
 use Rattle.promises.proofs.BinaryDigits.{digits}
+use Rattle.promises.proofs.Bills.{bill, billBy, oldBill, floors-add, bill-grows, bill-old, bill-none}
 
 -- how many of the candidates xs a list is searched for: those above its cut
 abbrev pub searches : Listed → List ℕ → ℕ
@@ -86,7 +87,11 @@ walk-allowed l p (x ∷ xs) =
           rw (lt-leb x (l .cut) h) (omega arith)
     ]
 
--- The searches, candidate after candidate
+-- The searches, candidate after candidate: none of none
+searches-none : (l : Listed) → searches l [] ≡ 0
+unfolding keep
+searches-none l = refl
+
 module _ (l : Listed) (x : ℕ) (xs : List ℕ) where
   -- one up to the cut does not count
   pub searches-low : x ≤ l .cut → searches l (x ∷ xs) ≡ 0 + searches l xs
@@ -96,43 +101,89 @@ module _ (l : Listed) (x : ℕ) (xs : List ℕ) where
   pub searches-high : l .cut < x → searches l (x ∷ xs) ≡ 1 + searches l xs
   searches-high h = let e = ap length (keep-pass (λ x. ltb (l .cut) x) x xs (lt-ltb (l .cut) x h)) in omega arith
 
--- what one candidate costs in looks, n being 1 where it is searched for, else 0; and where the finger goes
-record Moves (l : Listed) (p n : ℕ) (t : Try) : Type 0 where
-  from : p ≤ t .finger
-  below : p ≤ l .m → t .finger ≤ l .m
-  few : t .looks ≤ n + 2 * (t .finger - p)
-
-module _ (l : Listed) where
-  try-moves : (p x : ℕ) → l .cut < x → Moves l p 1 (tried l p x)
-  try-moves p x h =
-      rw (try-search l p x h)
-      (record { from = search-from _ x (l .m) p; below = search-below _ x (l .m) p; few = search-linear _ x (l .m) p })
-
-  try-stays : (p x : ℕ) → x ≤ l .cut → Moves l p 0 (tried l p x)
-  try-stays p x h = rw (try-bit l p x h) (record { from = omega arith; below = λ k. k; few = omega arith })
-
-  -- a candidate that costs n searches, and the walk of the others
-  walk-more : (p n q : ℕ) (t : Try) (w : ℕ) → p ≤ l .m → Moves l p n t → (t .finger ≤ l .m → w ≤ q + 2 * (l .m - t .finger))
-      → t .looks + w ≤ n + q + 2 * (l .m - p)
-  walk-more p n q t w h s r =
-      let b = s .below h in
-      let e = r b in
-      let f = s .from in
-      let g = s .few in
+-- [Order 14] THE LOOKS OF A WALK, from any finger on: a price for each search that is enough, and two looks for each 2 to the power of e blocks ahead of the finger
+module _ (l : Listed) (e w : ℕ) (h : Enough e w) where
+  -- a search, and the walk of the others: the two ways together are not longer than what lay ahead
+  walk-more : (p x q rest : ℕ) → rest ≤ q * w + 2 * ((l .m - searchOf l p x .j) / 2 ^ e)
+      → looksOf (searchOf l p x) + rest ≤ (1 + q) * w + 2 * ((l .m - p) / 2 ^ e)
+  walk-more p x q rest r =
+      let s = entryOf (l .cut) (l .entries) in
+      let c = search-priced s x (l .m) p e w h in
+      let f = floors-add e _ _ _ (search-ahead s x (l .m) p) in
       omega arith
 
-  -- THE LOOKS OF A WALK, from any finger on: one for each search, and two for each block ahead of the finger
-  pub walk-looks : (xs : List ℕ) (p : ℕ) → p ≤ l .m → walkList l p xs .looks ≤ searches l xs + 2 * (l .m - p)
+  pub walk-priced : (xs : List ℕ) (p : ℕ) → walkList l p xs .looks ≤ searches l xs * w + 2 * ((l .m - p) / 2 ^ e)
   unfolding walkList
-  walk-looks [] p h = omega arith
-  walk-looks (x ∷ xs) p h =
+  walk-priced [] p = omega arith
+  walk-priced (x ∷ xs) p =
       elim (decLe x (l .cut)) [
-        | yes a ↦ rw (searches-low l x xs a) (walk-more p 0 (searches l xs) (tried l p x) _ h (try-stays p x a) (walk-looks xs (tried l p x .finger)))
+        | yes a ↦ let r = walk-priced xs p in rw (searches-low l x xs a, try-bit l p x a) (omega arith)
         | no a ↦
             let c : l .cut < x = omega arith in
-            rw (searches-high l x xs c) (walk-more p 1 (searches l xs) (tried l p x) _ h (try-moves p x c) (walk-looks xs (tried l p x .finger)))
+            rw (searches-high l x xs c, try-search l p x c) (walk-more p x (searches l xs) _ (walk-priced xs (searchOf l p x .j)))
       ]
 
-  -- from finger 0 on
-  pub walk-looks-all : (xs : List ℕ) → walkList l 0 xs .looks ≤ searches l xs + 2 * l .m
-  walk-looks-all xs = let h = walk-looks xs 0 (omega arith) in omega arith
+-- THE BILL: the price is one look, and two for each of e digits
+module _ (l : Listed) (xs : List ℕ) where
+  pub walk-ahead : (e p : ℕ) → walkList l p xs .looks ≤ bill e (searches l xs) (l .m - p)
+  walk-ahead e p = let h = walk-priced l e (1 + 2 * e) (billed e) xs p in omega arith
+
+  -- so from any finger at most what all blocks allow
+  pub walk-bill : (e p : ℕ) → walkList l p xs .looks ≤ bill e (searches l xs) (l .m)
+  walk-bill e p = le-trans (walk-ahead e p) (bill-grows e _ _ _ _ (le-refl _) (omega arith))
+
+  -- THE OLD BOUND, with e = 0: one look for each search, and two for each block ahead of the finger
+  pub walk-looks : (p : ℕ) → walkList l p xs .looks ≤ oldBill (searches l xs) (l .m - p)
+  walk-looks p = rw bill-old at (walk-ahead 0 p)
+
+-- HOW NEAR. A walk with a search in it leaves one look over, for its last search does
+module _ (l : Listed) (e w : ℕ) (h : Enough e w) where
+  -- without a search there is no look
+  walk-none : (xs : List ℕ) (p : ℕ) → searches l xs ≡ 0 → walkList l p xs .looks ≡ 0
+  walk-none xs p z = let b = rw z at (walk-ahead l xs (digits (l .m - p)) p) in let n = bill-none (l .m - p) in omega arith
+
+  walk-last : (p x q rest : ℕ) → (q ≡ 0 → rest ≡ 0) → (0 < q → rest < q * w + 2 * ((l .m - searchOf l p x .j) / 2 ^ e))
+      → looksOf (searchOf l p x) + rest < (1 + q) * w + 2 * ((l .m - p) / 2 ^ e)
+  walk-last p x zero rest z r = let u = search-under (entryOf (l .cut) (l .entries)) x (l .m) p e w h in let n = z refl in omega arith
+  walk-last p x (suc q) rest z r = let n = r (omega arith) in let m = walk-more l e w h p x (suc q) (suc rest) (omega arith) in omega arith
+
+  pub walk-under : (xs : List ℕ) (p : ℕ) → 0 < searches l xs → walkList l p xs .looks < searches l xs * w + 2 * ((l .m - p) / 2 ^ e)
+  unfolding walkList
+  walk-under [] p n = let z = searches-none l in absurd (omega arith)
+  walk-under (x ∷ xs) p n =
+      elim (decLe x (l .cut)) [
+        | yes a ↦ let s = searches-low l x xs a in let r = walk-under xs p (omega arith) in rw (s, try-bit l p x a) (omega arith)
+        | no a ↦
+            let c : l .cut < x = omega arith in
+            let j = searchOf l p x .j in
+            rw (searches-high l x xs c, try-search l p x c) (walk-last p x (searches l xs) _ (walk-none xs j) (walk-under xs j))
+      ]
+
+module _ (l : Listed) (xs : List ℕ) (e p : ℕ) (n : 0 < searches l xs) where
+  -- so no bill is reached
+  pub walk-below : walkList l p xs .looks < bill e (searches l xs) (l .m - p)
+  walk-below = let h = walk-under l e (1 + 2 * e) (billed e) xs p n in omega arith
+
+  -- and where e is not 0, one look of each search is to spare besides: two for each of e digits are price enough
+  pub walk-spare : 0 < e → walkList l p xs .looks + searches l xs < bill e (searches l xs) (l .m - p)
+  walk-spare h = let u = walk-under l e (2 * e) (record { one = omega arith; digits = omega arith }) xs p n in omega arith
+
+-- what holds of every walk from finger 0 on, of its looks, its searches and the blocks of its list
+abbrev pub OfWalks : (ℕ → ℕ → ℕ → Type 0) → Type 0
+OfWalks R = (l : Listed) (xs : List ℕ) → R (walkList l 0 xs .looks) (searches l xs) (l .m)
+
+-- what bounds its looks
+abbrev pub Bounds : (ℕ → ℕ → ℕ) → Type 0
+Bounds b = OfWalks (λ n q m. n ≤ b q m)
+
+-- the bill does, with an e chosen for each by q and m
+pub bill-bounds : (e : ℕ → ℕ → ℕ) → Bounds (billBy e)
+bill-bounds e l xs = walk-bill l xs (e (searches l xs) (l .m)) 0
+
+-- and the old bound, being the bill with e = 0
+pub old-bounds : Bounds oldBill
+old-bounds l xs = rw bill-old at (walk-bill l xs 0 0)
+
+-- HOW NEAR, from finger 0 on
+pub spare-walks : (e : ℕ) → OfWalks (λ n q m. 0 < q → (n < bill e q m) × (0 < e → n + q < bill e q m))
+spare-walks e l xs some = (rw sub-zero at (walk-below l xs e 0 some), λ h. rw sub-zero at (walk-spare l xs e 0 some h))

@@ -6,6 +6,7 @@
 //! either is `-`. The README tells the fields of each operation.
 
 mod asking;
+mod bills;
 mod bounds;
 mod costs;
 mod looking;
@@ -26,6 +27,7 @@ pub fn all() -> Vec<String> {
     costs::add(&mut deck, &mut random);
     bounds::add(&mut deck);
     nexts::add(&mut deck);
+    bills::add(&mut deck, &mut random);
     deck.lines
 }
 

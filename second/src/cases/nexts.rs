@@ -1,5 +1,5 @@
-//! Cases of the next slot of a list. They stand behind all others, so that these
-//! keep their numbers. Every index is a small one.
+//! Cases of the next slot of a list. They stand behind all that there were before
+//! them, so that these keep their numbers. Every index is a small one.
 
 use super::shape::*;
 use super::Deck;

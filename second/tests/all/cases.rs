@@ -786,6 +786,64 @@ fn note_costs(seen: &mut Seen, case: &Case, names: &[u32]) {
     }
 }
 
+/// The questions that the bill for looks is there for. Each position charged has
+/// its searches, its blocks, its looks, its best e and the bill for that.
+const BILLED: [(&str, &[[u64; 5]]); 6] = [
+    // Both are computed in the tests of the bill.
+    ("3 slots in 31 blocks", &[[3, 31, 23, 3, 27]]),
+    ("1 slot in 15 blocks", &[[1, 15, 7, 3, 9]]),
+    // 11 is position 4: 1, 2, 4, 8, then 6 and 5. 45 is position 21: 5, 6, 8, 12, 20,
+    // then 24, 22 and 21. In the list between, 11 is a bit; 30 comes to blocks 1 and
+    // 2, and 45 to 2 and 3, then 4.
+    (
+        "2 of 3 slots left for 27 blocks",
+        &[[2, 27, 6 + 8, 3, 20], [2, 4, 2 + 3, 0, 10]],
+    ),
+    // 22 fails at block 1. 50 is position 10: 1, 2, 4, 8, 16, then 12, 10 and 11. 71
+    // is position 17: 11, 12, 14, 18, then 16 and 17.
+    (
+        "3 bit tests, then 3 slots in 24 blocks",
+        &[[3, 24, 1 + 8 + 6, 2, 27]],
+    ),
+    ("3 bit tests, no slot in 12 blocks", &[[0, 12, 0, 4, 0]]),
+    // 94 is in block 19: 1, 2, 4, 8, 16, then 18, 19 and 20. 96 fails at block 20, 99
+    // comes to it, and for 100 none is left.
+    (
+        "4 slots at the end of 20 blocks",
+        &[[4, 20, 8 + 1 + 1, 2, 30]],
+    ),
+];
+
+#[test]
+fn bills_by_hand() {
+    let mut cases = of("ask");
+    let first = cases.len() - BILLED.len();
+    for (case, (label, billed)) in cases.split_off(first).iter().zip(BILLED) {
+        assert_eq!(case.label, label);
+        assert!(case.bytes(0).len() <= 400);
+        let charges = second::charges(&case.bytes(0), &case.list(2)).unwrap();
+        let told = charges.iter().map(|charge| {
+            let (e, most) = charge.best();
+            let e = u64::from(e);
+            [charge.searches, charge.blocks, charge.looks, e, most]
+        });
+        assert_eq!(told.collect::<Vec<_>>(), billed, "{label}");
+    }
+}
+
+#[test]
+fn no_question_costs_more_than_its_bill() {
+    let asked = of("ask");
+    let by_skips = |case: &&Case| (case.number(1), case.number(4)) == (1, 0);
+    for case in asked.iter().filter(by_skips) {
+        let charges = second::charges(&case.bytes(0), &case.list(2)).unwrap();
+        for charge in charges {
+            assert_eq!(case.list(9)[charge.position] as u64, charge.looks);
+            assert!(charge.looks <= charge.best().1, "{}", case.label);
+        }
+    }
+}
+
 fn note_visits(seen: &mut Seen, index: &model::Index, visits: &[Visit]) {
     for (rank, visit) in visits.iter().enumerate() {
         let list = &index.lists[visit.list];

@@ -2,6 +2,7 @@
 //! the paper or follows from it by hand; nothing is taken from a run.
 #![forbid(unsafe_code)]
 
+mod bill;
 mod bound;
 mod cases;
 mod closing;
