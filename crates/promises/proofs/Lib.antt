@@ -46,6 +46,7 @@ pub mod BinaryDigits
 pub mod SearchCost
 pub mod Bills
 pub mod WalkCost
+pub mod BestBills
 pub mod SeekCodes
 pub mod SkipCost
 pub mod AnswerCost

@@ -52,7 +52,8 @@ use Rattle.promises.proofs.WalkCost.{
   old-bounds,
   walk-allowed,
 }
-use Rattle.promises.proofs.Bills.{bill, billBy, oldBill, bill-grows, bill-first, bill-capped}
+use Rattle.promises.proofs.Bills.{bill, billBy, oldBill, bill-grows}
+use Rattle.promises.proofs.BestBills.{bill-first, bill-capped}
 use Rattle.promises.proofs.SeekCodes.{below, blockOf, seek-codes, try-codes, try-few, walk-codes}
 use Rattle.promises.proofs.SkipCost.{searchesIn, seenIn, readIn, boundOf, AtMost}
 use Rattle.promises.proofs.AnswerCost.{looksCharged, codesCharged, visitsOf}
