@@ -92,8 +92,8 @@ uint32_t slots_look(const uint8_t *index, size_t index_len, uint64_t *out, size_
  * smallest, or where it is named again: the one named first) is the starting list, whose slots are sought in the others: both fields of its position
  * are 0. So are those of positions behind the last name, and all of them where the way is plain or the question is refused. The two totals are the sums of
  * these fields. An `out` of 5 receives all that stands before them.
- * What a position may cost: where q slots are sought in a list of m blocks, it has at most q + 2qe + 2 * floor(m / 2^e) looks, for every whole number e,
- * 0 too. Those sought are the candidates above the list's cut; for the others a bit is tested, which is no look. */
+ * What a position may cost: where q slots are sought in a list of m blocks, it has at most q + 2qe + 2 * floor(m / 2^e) looks, for every whole e from 0 on.
+ * Those sought are the candidates above the list's cut; for the others a bit is tested, which is no look. */
 enum slots_ask_field {
     SLOTS_ASK_NUMBER,
     SLOTS_ASK_PLACE,

@@ -164,7 +164,7 @@ class Answer:
     looks_at and codes_at tell which list cost what: the looks and the codes of each name, at its position in the question. A list that is named
     twice has two of each, each with its own cost. The starting list has 0 and 0: the smallest (of several smallest, or where it is named
     again: the one named first), whose slots are sought in the others. looks and codes are the totals. Where q slots are sought in a list of m
-    blocks, there are at most q + 2qe + 2 * floor(m / 2^e) looks, for every whole number e, 0 too; bills.py counts q.
+    blocks, there are at most q + 2qe + 2 * floor(m / 2^e) looks, for every whole e from 0 on; bills.py counts q.
 
     True where there is any slot. Compare `slots` with a list, not the answer.
     """

@@ -42,7 +42,7 @@ impl Answer<'_> {
     /// are 0.
     ///
     /// Where q slots are sought in a list of m blocks, there are at most q + 2qe + 2 * floor(m / 2^e)
-    /// looks, for every whole number e, 0 too. Those sought are the candidates above the list's cut.
+    /// looks, for every whole e from 0 on. Those sought are the candidates above the list's cut.
     pub fn looks_at(&self) -> &[u64] {
         self.looks_at.as_slice()
     }

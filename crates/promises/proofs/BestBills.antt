@@ -16,7 +16,7 @@ module _ (q m : ℕ) where
   pub bill-step : (e : ℕ) → (2 * q < m / 2 ^ e → bill (suc e) q m < bill e q m) × (m / 2 ^ e ≤ 2 * q → bill e q m ≤ bill (suc e) q m)
   bill-step e = let h = halved-again e in (λ l. omega arith, λ l. omega arith)
 
-  -- so it grows from there on
+  -- so from there on it does not fall
   ups : (k e : ℕ) → m / 2 ^ e ≤ 2 * q → bill e q m ≤ bill (e + k) q m
   ups zero e l = let z : e + 0 ≡ e = omega arith in rw z (le-refl _)
   ups (suc k) e l =
@@ -24,14 +24,14 @@ module _ (q m : ℕ) where
       let z : suc e + k ≡ e + suc k = omega arith in
       le-trans (bill-step e .1 l) (rw z at (ups k (suc e) (omega arith)))
 
-  -- and falls up to there
+  -- and up to there it falls
   downs : (k e : ℕ) → ((f : ℕ) → f < e + k → 2 * q < m / 2 ^ f) → bill (e + k) q m ≤ bill e q m
   downs zero e l = let z : e + 0 ≡ e = omega arith in rw z (le-refl _)
   downs (suc k) e l =
       let z : suc e + k ≡ e + suc k = omega arith in
       le-trans (rw z at (downs k (suc e) (λ f h. l f (omega arith)))) (le-of-lt (bill-step e .0 (l e (omega arith))))
 
-  -- the first e from which on it grows is the best of all
+  -- the first e from which on it does not fall is the best of all
   pub bill-first : (e : ℕ) → m / 2 ^ e ≤ 2 * q → ((f : ℕ) → f < e → 2 * q < m / 2 ^ f) → (f : ℕ) → bill e q m ≤ bill f q m
   bill-first e l n f =
       elim (decLe e f) [

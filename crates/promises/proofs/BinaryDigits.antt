@@ -80,7 +80,7 @@ digits-over k n h = go (decLe (digits n) k)
     go (yes l) = let p : 2 ^ digits n ≤ 2 ^ k = pow-le-pow-right (omega arith) l in let b = digits-below n in absurd (omega arith)
     go (no g) = omega arith
 
--- [Order 14] n without its last e digits, halved once more
+-- [Order 14] halved, and then as often as 2 to the power of e goes into it: as often as the next power goes into n
 halves : (e n : ℕ) → n / 2 / 2 ^ e ≡ n / 2 ^ suc e
 halves e n = div-div-eq-div-mul n 2 (2 ^ e) ∙ ap (λ (k : ℕ). n / k) (sym (pow-succ' 2 e))
 
@@ -96,7 +96,7 @@ digitsF-shift (suc e) (suc f) n h =
           rw (digitsF-some f n (omega arith)) (omega arith)
     ]
 
--- n has at most e digits more than there are 2 to the power of e in it
+-- n has at most e + floor(n / 2^e) digits
 pub digits-shift : (e n : ℕ) → digits n ≤ e + n / 2 ^ e
 unfolding digits
 digits-shift e n = digitsF-shift e n n (le-refl n)

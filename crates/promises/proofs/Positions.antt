@@ -2,7 +2,7 @@
 -- proof, which cites other files. Beside this file a reader needs, of crate paper, the answer (Ask), and here the words that the statements are put in:
 -- PlaceCosts (listAt, Spent), SkipOrder (sizes), WalkCost (searches, walkedOver, allowed, allowance), Bills (bill), SeekCodes (readOver), QuestionExamples (Charges),
 -- BillExamples (long, both); of crate meaning, Orders (Before) and Rising (Ascends); of laws, Lists (In). A position is that of a name in the question as it was asked, counted from 0.
-use Prim.Native.Nat.{ℕ, _+_, _-_, _*_, _/_, _^_, _≤_, _<_}
+use Prim.Native.Nat.{ℕ, _+_, _-_, _*_, _≤_, _<_}
 use mathlib.Core.Path.{_≡_, refl, sym, ap, _∙_}
 use mathlib.Core.List.{List, [], _∷_}
 use native.Mathlib.Omega.{arith}
@@ -96,7 +96,7 @@ OneSpent = (index names : List ℕ) (room i : ℕ) (s t : Spent index names room
 pub one-spent : OneSpent
 one-spent = places.spent-one
 
--- [Order 14] There the looks are at most q + 2qe + 2 · floor(m / 2^e), for q searches in a list of m blocks: for every e.
+-- [Order 14] The looks of such a position are at most q + 2qe + 2 · floor(m / 2^e), for q searches in a list of m blocks: for every e.
 abbrev pub PlaceBill : Type 0
 PlaceBill =
     OfPositions λ index names room i.

@@ -79,16 +79,16 @@ pub record Cost (n looks : ℕ) : Type 0 where
 -- power of e the finger moves on is paid for beside it
 pub record Enough (e w : ℕ) : Type 0 where
   pub one : 1 ≤ w
-  pub digits : 2 * e ≤ w
+  pub twice : 2 * e ≤ w
 
 -- such a price is the bill's, for one search
 pub billed : (e : ℕ) → Enough e (1 + 2 * e)
-billed e = record { one = omega arith; digits = omega arith }
+billed e = record { one = omega arith; twice = omega arith }
 
 -- so much costs a search no more
 cost-priced : (e w : ℕ) → Enough e w → (n looks : ℕ) → Cost n looks → looks ≤ w + 2 * (n / 2 ^ e)
 cost-priced e w h zero looks c = let s = c .stayed refl in let o = h .one in omega arith
-cost-priced e w h (suc n) looks c = let l = c .moved (omega arith) in let f = digits-shift e (suc n) in let d = h .digits in omega arith
+cost-priced e w h (suc n) looks c = let l = c .moved (omega arith) in let f = digits-shift e (suc n) in let d = h .twice in omega arith
 
 module _ (s : ℕ → ℕ) (x m p : ℕ) where
   -- so much does every search, whatever the entries are
@@ -126,7 +126,7 @@ module _ (s : ℕ → ℕ) (x m p : ℕ) where
     where
       go : Dec (m ≤ p) → looksOf (searched s x m p) < w + 2 * ((m - p) / 2 ^ e)
       go (yes l) = let z = search-none l in let o = h .one in omega arith
-      go (no l) = let r = search-reach (omega arith) in let f = digits-shift e (m - p) in let d = h .digits in omega arith
+      go (no l) = let r = search-reach (omega arith) in let f = digits-shift e (m - p) in let d = h .twice in omega arith
 
   -- what lies ahead of the finger before the search covers the way that it goes and what lies ahead then, also where it begins past m
   pub search-ahead : searched s x m p .j - p + (m - searched s x m p .j) ≤ m - p

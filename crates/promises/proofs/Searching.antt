@@ -290,14 +290,14 @@ SearchLooksFew =
 pub search-looks-few : SearchLooksFew
 search-looks-few s x m p = (search-cost s x m p .moved, search-cost s x m p .stayed)
 
--- [Order 14] For every e, d has at most e digits more than 2 to the power of e goes into it.
+-- [Order 14] For every e, d has at most e + floor(d / 2^e) digits.
 abbrev pub DigitsShifted : Type 0
 DigitsShifted = (e d : ℕ) → digits d ≤ e + d / 2 ^ e
 
 pub digits-shifted : DigitsShifted
 digits-shifted = digits-shift
 
--- [Order 14] So the search costs at most 1 + 2e + 2 · floor(d / 2^e) looks, also where d is 0.
+-- [Order 14] So a search that moves the finger on by d costs at most 1 + 2e + 2 · floor(d / 2^e) looks, also where d is 0.
 abbrev pub SearchBill : Type 0
 SearchBill = OfSearches λ s x m p. (e : ℕ) → looksOf (searched s x m p) ≤ bill e 1 (searched s x m p .j - p)
 
@@ -319,6 +319,21 @@ WalkBillAhead = (l : Listed) (xs : List ℕ) (e p : ℕ) → walkList l p xs .lo
 pub walks-billed-ahead : WalkBillAhead
 walks-billed-ahead = walk-ahead
 
+-- With e = 0 the bill is q + 2m: candidates of which q are searched for in a list of m blocks, the finger starting at 0 and carried on, cost at most q + 2m looks
+-- in all, in any list, whatever the candidates and their order.
+abbrev pub WalkLooksFew : Type 0
+WalkLooksFew = (l : Listed) (xs : List ℕ) → walkList l 0 xs .looks ≤ searches l xs + 2 * l .m
+
+pub walk-looks-few : WalkLooksFew
+walk-looks-few = old-bounds
+
+-- With the finger at p to begin with, only the blocks ahead of it count.
+abbrev pub WalkLooksFrom : Type 0
+WalkLooksFrom = (l : Listed) (xs : List ℕ) (p : ℕ) → p ≤ l .m → walkList l p xs .looks ≤ searches l xs + 2 * (l .m - p)
+
+pub walk-looks-from : WalkLooksFrom
+walk-looks-from l xs p h = walk-looks l xs p
+
 -- [Order 14] HOW NEAR. Where something lies ahead of the finger, a search costs less than two looks for each binary digit of what lies ahead.
 abbrev pub SearchLooksAhead : Type 0
 SearchLooksAhead = OfSearches λ s x m p. p < m → looksOf (searched s x m p) < 2 * digits (m - p)
@@ -335,33 +350,19 @@ WalkSpare =
 pub walks-spare : WalkSpare
 walks-spare l xs e p n = (walk-below l xs e p n, walk-spare l xs e p n)
 
--- [Order 14] WHICH e. The bill is least with the first e for which 2 to the power of e goes into m at most 2q times: up to there it falls, and then it grows.
+-- [Order 14] WHICH e. The bill is least with the first e for which 2 to the power of e goes into m at most 2q times.
 abbrev pub BillBest : Type 0
 BillBest = (e q m : ℕ) → m / 2 ^ e ≤ 2 * q → ((f : ℕ) → f < e → 2 * q < m / 2 ^ f) → (f : ℕ) → bill e q m ≤ bill f q m
 
 pub bill-best : BillBest
 bill-best e q m = bill-first q m e
 
--- [Order 14] So nothing is gained above the digits of m, where it goes into m no more: any other e may be exchanged for that number of digits.
+-- [Order 14] Nothing is gained above the digits of m, where it goes into m no more: any other e may be exchanged for that number of digits.
 abbrev pub BillLeast : Type 0
 BillLeast = (e q m : ℕ) → bill (min e (digits m)) q m ≤ bill e q m
 
 pub bill-least : BillLeast
 bill-least = bill-capped
-
--- The bill with e = 0, from finger 0 on: at most q + 2m looks in all.
-abbrev pub WalkLooksFew : Type 0
-WalkLooksFew = (l : Listed) (xs : List ℕ) → walkList l 0 xs .looks ≤ searches l xs + 2 * l .m
-
-pub walk-looks-few : WalkLooksFew
-walk-looks-few = old-bounds
-
--- With the finger at p to begin with, only the blocks ahead of it count.
-abbrev pub WalkLooksFrom : Type 0
-WalkLooksFrom = (l : Listed) (xs : List ℕ) (p : ℕ) → p ≤ l .m → walkList l p xs .looks ≤ searches l xs + 2 * (l .m - p)
-
-pub walk-looks-from : WalkLooksFrom
-walk-looks-from l xs p h = walk-looks l xs p
 
 -- And no walk costs more than its searches may cost one by one: two for each binary digit of the blocks that a search moves on by, one where it stays.
 abbrev pub WalkLooksDigits : Type 0
@@ -485,16 +486,18 @@ answer-costs-plain index names room ok = (
   answer.codes-plain index names room ok,
 )
 
--- [Order 14] And by the bill, for every e: before a question is asked, the counts and the blocks of its lists tell what it may cost.
+-- [Order 14] And by the bill, with an e for each list, chosen by its blocks: before a question is asked, the counts and the blocks of its lists tell what it may
+-- cost.
 abbrev pub AnswerBillPlain : Type 0
 AnswerBillPlain =
     OfSkips λ index names room.
     let rs = named index names in
-    (e : ℕ) → askAnswer index 1 names room .looks ≤ total (map (λ r. bill e (smallest rs) (listed (uOf index) (blockLength index) r .m)) (drop 1 (inOrder rs)))
+    let m : List ℕ → ℕ = λ r. listed (uOf index) (blockLength index) r .m in
+    (e : ℕ → ℕ) → askAnswer index 1 names room .looks ≤ total (map (λ r. bill (e (m r)) (smallest rs) (m r)) (drop 1 (inOrder rs)))
 
 pub answer-bill-plain : AnswerBillPlain
 answer-bill-plain index names room ok e =
-    answer.looks-plain index names room ok (bill e) (bill-bounds (λ q m. e)) (λ q m h. bill-grows e q _ m m h (le-refl m))
+    answer.looks-plain index names room ok (λ q m. bill (e m) q m) (bill-bounds (λ q m. e m)) (λ q m h. bill-grows (e m) q _ m m h (le-refl m))
 
 -- Plainly nothing is charged, and there are no looks and no codes, in sum and in each of the sixteen places, accepted or refused.
 abbrev pub PlainFree : Type 0

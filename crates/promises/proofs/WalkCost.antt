@@ -166,7 +166,7 @@ module _ (l : Listed) (xs : List ℕ) (e p : ℕ) (n : 0 < searches l xs) where
 
   -- and where e is not 0, one look of each search is to spare besides: two for each of e digits are price enough
   pub walk-spare : 0 < e → walkList l p xs .looks + searches l xs < bill e (searches l xs) (l .m - p)
-  walk-spare h = let u = walk-under l e (2 * e) (record { one = omega arith; digits = omega arith }) xs p n in omega arith
+  walk-spare h = let u = walk-under l e (2 * e) (record { one = omega arith; twice = omega arith }) xs p n in omega arith
 
 -- what holds of every walk from finger 0 on, of its looks, its searches and the blocks of its list
 abbrev pub OfWalks : (ℕ → ℕ → ℕ → Type 0) → Type 0
