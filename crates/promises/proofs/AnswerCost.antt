@@ -19,8 +19,8 @@ use Rattle.meaning.proofs.Common.{ordered-length, smallest-count}
 use Rattle.laws.proofs.Frames.{looked}
 use Rattle.promises.proofs.QuestionNumbers.{Passed, passed}
 use Rattle.meaning.proofs.Charging.{skips-positions}
-use Rattle.promises.proofs.SkipCost.{Visit, searchesIn, seenIn, readIn, boundOf, visitsFrom, AtMost, most-total}
 use Rattle.promises.proofs.WalkCost.{Bounds}
+use Rattle.promises.proofs.SkipCost.{Visit, searchesIn, seenIn, readIn, boundOf, visitsFrom, AtMost, most-total}
 use Rattle.promises.proofs.SkipCost.{skips-seen, skips-read, skips-looks, skips-codes, visits-plain, visits-few}
 
 -- the looks charged

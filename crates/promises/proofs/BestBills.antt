@@ -1,26 +1,22 @@
 -- [Order 14] Which e makes the bill for looks least.
 use Prim.Native.Nat.{ℕ, zero, suc, _+_, _-_, _*_, _/_, _^_, _≤_, _<_, min}
-use mathlib.Core.Path.{_≡_, sym, ap, _∙_}
+use mathlib.Core.Path.{_≡_}
 use native.Mathlib.Decide.{decLe}
-use native.Mathlib.Nat.{le-refl, le-trans, le-of-lt, mul-le-mul-left, min-eq-left, min-eq-right, div-eq-of-lt, div-div-eq-div-mul}
+use native.Mathlib.Nat.{le-refl, le-trans, le-of-lt, mul-le-mul-left, min-eq-left, min-eq-right, div-eq-of-lt}
 use native.Mathlib.Omega.{arith}
-use Rattle.promises.proofs.BinaryDigits.{digits, digits-below}
+use Rattle.promises.proofs.BinaryDigits.{digits, digits-below, halves}
 use Rattle.promises.proofs.Bills.{bill}
 
 -- One e more makes the bill smaller exactly where 2 to the power of e goes into m more than 2q times
 module _ (q m : ℕ) where
-  -- it goes into m half as often then
-  halved-again : (e : ℕ) → m / 2 ^ suc e ≡ m / 2 ^ e / 2
-  halved-again e = let z : 2 ^ e * 2 ≡ 2 ^ suc e = omega arith in sym (div-div-eq-div-mul m (2 ^ e) 2 ∙ ap (λ (k : ℕ). m / k) z)
-
   pub bill-step : (e : ℕ) → (2 * q < m / 2 ^ e → bill (suc e) q m < bill e q m) × (m / 2 ^ e ≤ 2 * q → bill e q m ≤ bill (suc e) q m)
-  bill-step e = let h = halved-again e in (λ l. omega arith, λ l. omega arith)
+  bill-step e = let h = halves e m .1 in (λ l. omega arith, λ l. omega arith)
 
   -- so from there on it does not fall
   ups : (k e : ℕ) → m / 2 ^ e ≤ 2 * q → bill e q m ≤ bill (e + k) q m
   ups zero e l = let z : e + 0 ≡ e = omega arith in rw z (le-refl _)
   ups (suc k) e l =
-      let h = halved-again e in
+      let h = halves e m .1 in
       let z : suc e + k ≡ e + suc k = omega arith in
       le-trans (bill-step e .1 l) (rw z at (ups k (suc e) (omega arith)))
 

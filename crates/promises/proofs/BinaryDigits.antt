@@ -2,7 +2,7 @@
 use Prim.Native.Nat.{ℕ, zero, suc, _+_, _-_, _*_, _/_, _^_, _≤_, _<_}
 use mathlib.Core.Path.{_≡_, refl, sym, ap, _∙_}
 use native.Mathlib.Decide.{decLe}
-use native.Mathlib.Nat.{le-refl, pow-le-pow-right, pow-succ', div-one, div-div-eq-div-mul}
+use native.Mathlib.Nat.{le-refl, pow-le-pow-right, div-one, div-div-eq-div-mul}
 use native.Mathlib.Numerals.{sub-one}
 use native.Mathlib.Omega.{arith}
 use lib.Dec.{ltb}
@@ -80,9 +80,12 @@ digits-over k n h = go (decLe (digits n) k)
     go (yes l) = let p : 2 ^ digits n ≤ 2 ^ k = pow-le-pow-right (omega arith) l in let b = digits-below n in absurd (omega arith)
     go (no g) = omega arith
 
--- [Order 14] halved, and then as often as 2 to the power of e goes into it: as often as the next power goes into n
-halves : (e n : ℕ) → n / 2 / 2 ^ e ≡ n / 2 ^ suc e
-halves e n = div-div-eq-div-mul n 2 (2 ^ e) ∙ ap (λ (k : ℕ). n / k) (sym (pow-succ' 2 e))
+-- [Order 14] the next power of 2 goes into n as often as this one into the half of n, and half as often as this one into n
+pub halves : (e n : ℕ) → (n / 2 ^ suc e ≡ n / 2 / 2 ^ e) × (n / 2 ^ suc e ≡ n / 2 ^ e / 2)
+halves e n = (go 2 (2 ^ e) (omega arith), go (2 ^ e) 2 (omega arith))
+  where
+    go : (a b : ℕ) → a * b ≡ 2 ^ suc e → n / 2 ^ suc e ≡ n / a / b
+    go a b z = sym (div-div-eq-div-mul n a b ∙ ap (λ (k : ℕ). n / k) z)
 
 digitsF-shift : (e f n : ℕ) → n ≤ f → digitsF f n ≤ e + n / 2 ^ e
 digitsF-shift zero f n h = let t = digitsF-told f n h in rw div-one (omega arith)
@@ -92,7 +95,7 @@ digitsF-shift (suc e) (suc f) n h =
       | yes z ↦ rw (digitsF-none (suc f) n z) (omega arith)
       | no g ↦
           let i = digitsF-shift e f (n / 2) (omega arith) in
-          let q = halves e n in
+          let q = halves e n .0 in
           rw (digitsF-some f n (omega arith)) (omega arith)
     ]
 
