@@ -1,5 +1,7 @@
 // The codes of one block, checked. They come as a slice of their own. What a glance accepts is not read again; all else is read code by code, which alone
 // tells a fault by its number.
+#![tactic(auto)]
+
 ghost use Rattle.std.specs.Prelude.{◌≡◌, ◌≤◌, length};
 ghost use Rattle.paper.specs.Block.{read_codes};
 ghost use Rattle.checks.specs.Checks.{checked};

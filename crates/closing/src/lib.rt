@@ -1,4 +1,6 @@
 // Closing an index: every refusal first, then the directory and the trailer behind the records.
+#![tactic(auto)]
+
 ghost use Rattle.std.specs.Prelude.{◌≡◌, ◌+◌, ◌*◌, ◌≤◌, ◌<◌, length};
 ghost use mathlib.Core.List.{map, flatten};
 ghost use Rattle.std.proofs.lemmas.List.Edits.{sets};

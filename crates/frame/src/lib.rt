@@ -1,4 +1,6 @@
 // The frame of an index, read from its end: trailer and directory, refusals 1 to 5; then its lists, one after the other.
+#![tactic(auto)]
+
 ghost use Rattle.std.specs.Prelude.{◌≡◌, ◌+◌, ◌*◌, ◌-◌, ◌≤◌, ◌<◌, length, drop};
 ghost use Rattle.paper.specs.Lists.{same};
 ghost use Rattle.paper.specs.Refusal.{verdict, accepted, tag, fault4, fault4k, too_short, starts_fault};

@@ -1,5 +1,7 @@
 // One list's slots, put to the front of a slice, and the rest of the slice cleared. Nothing here is counted: gathering the
 // candidates of a question costs neither looks nor codes.
+#![tactic(auto)]
+
 ghost use Rattle.std.specs.Prelude.{◌≡◌, ◌+◌, ◌*◌, ◌-◌, ◌≤◌, ◌<◌, length, take, replicate};
 ghost use mathlib.Core.List.{◌++◌, flatten};
 ghost use Rattle.paper.specs.Lists.{keep, up_from};

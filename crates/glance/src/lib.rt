@@ -1,4 +1,6 @@
 // A glance at the bytes of a block, eight at a time: what they add up to, if they are codes of one and two bytes. It tells no fault by its number.
+#![tactic(auto)]
+
 ghost use Rattle.std.specs.Prelude.{◌≡◌, ◌+◌, ◌≤◌, ◌<◌, length, take, drop};
 ghost use Rattle.quick.specs.Sums.{Told, Flat, Told3, digits};
 ghost use Rattle.quick.specs.Words.{wrong_of, led_of, in_pairs, on_of, wrong3_of, far_of};

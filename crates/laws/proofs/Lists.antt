@@ -40,6 +40,7 @@ has_there x y ys n = simp (ne_eqb _ _ n)
 
 -- has says so of each that is one of the list
 pub has_in : (x : ℕ) (ys : List ℕ) → In x ys → has x ys ≡ true
+has_in x [] it = elim it [ ]
 has_in x (y ∷ ys) (here e) = has_here x y ys e
 has_in x (y ∷ ys) (there i) =
     elim (ℕ_discrete x y) [
@@ -91,6 +92,7 @@ module _ (P : ℕ → Type 0) where
 
   -- and any of them
   pub each_in : (xs : List ℕ) → Each P xs → (z : ℕ) → In z xs → P z
+  each_in [] e z it = elim it [ ]
   each_in (x ∷ xs) e z (here i) = rw i e.0
   each_in (x ∷ xs) e z (there i) = each_in xs e.1 z i
 
@@ -209,6 +211,7 @@ pub has_place : (x : ℕ) (ys : List ℕ) → has x ys ≡ true → (k : ℕ) ×
 has_place x ys h = go ys (in_has x ys h)
   where
     go : (ys : List ℕ) → In x ys → (k : ℕ) × (k < length ys) × (get_or ys k 0 ≡ x)
+    go [] it = elim it [ ]
     go (y ∷ ys) (here e) = (0, omega arith, sym e)
     go (y ∷ ys) (there i) = let p = go ys i in (suc p.0, omega arith, p.2)
 

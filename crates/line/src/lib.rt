@@ -1,4 +1,6 @@
 // The text of a question: its numbers, one after the other, the way first and then the names.
+#![tactic(auto)]
+
 ghost use Rattle.std.specs.Prelude.{◌≡◌, false, ◌+◌, ◌≤◌, ◌<◌, length, drop};
 ghost use Rattle.paper.specs.Bytes.{byte_at};
 ghost use Rattle.paper.specs.Line.{is_parting, read_numbers};

@@ -1,5 +1,7 @@
 // One name of an accepted index: its record, a part of the index. Of a question: its slots gathered; the candidates taken through its list
 // by either way. And the counts of all names.
+#![tactic(auto)]
+
 ghost use Rattle.std.specs.Prelude.{◌≡◌, map, ◌≤◌, ◌<◌, length, take};
 ghost use Rattle.paper.specs.Lists.{has, keep};
 ghost use Rattle.paper.specs.Held.{count_of};

@@ -1,5 +1,7 @@
 // Writing a record. Its slots are judged and its parts measured before anything is written; then each part goes to its place. Names are the
 // paper's: slots up to the cut go into bits, those above it into the tail, in blocks of `block` slots.
+#![tactic(auto)]
+
 ghost use Rattle.std.specs.Prelude.{◌≡◌, ◌+◌, ◌*◌, ◌-◌, ◌≤◌, ◌<◌, min, [], ◌++◌, length};
 ghost use Rattle.std.proofs.lemmas.List.Edits.{sets};
 ghost use Rattle.paper.specs.Lists.{on_front};

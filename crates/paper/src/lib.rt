@@ -1,6 +1,7 @@
 // The answers of the public operations, as plain structs. Which answer an operation gives is said by the definitions in specs/;
 // there is no code here.
 // Every answer has a number, 0 where the operation accepts, and a place. On refusal every other field is 0 or false.
+#![tactic(auto)]
 
 #[derive(Drop)]
 pub struct Verdict {

@@ -1,5 +1,7 @@
 // The plain way through one list: the candidates up to the cut are told by its bits, those behind it by marks that its slots set in a small table, piece by piece. It
 // reports nothing, reads every code at most twice, and no block whose slots are all below the first candidate left.
+#![tactic(auto)]
+
 ghost use Rattle.std.specs.Prelude.{◌≡◌, ◌∷◌, ◌+◌, ◌*◌, ◌≤◌, ◌<◌, length, take};
 ghost use Rattle.paper.specs.Lists.{bit_of, has, keep};
 ghost use Rattle.paper.specs.Bytes.{part};

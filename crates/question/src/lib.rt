@@ -1,5 +1,7 @@
 // A question whose index is accepted: its refusals, its names by rising count, the candidates of the smallest list, and their way through the
 // other lists.
+#![tactic(auto)]
+
 ghost use Rattle.std.specs.Prelude.{◌≡◌, ◌≤◌, ◌<◌, length, get_or};
 ghost use Rattle.paper.specs.Refusal.{accepted, fault10, fault11, fault14};
 ghost use Rattle.paper.specs.Index.{k_of};

@@ -1,6 +1,8 @@
 // The small program: it puts the question that stands on standard input to the index in the file `rack.idx` of its working folder, and prints
 // the answer. Files and pipes lie outside of every promise, so all functions here are proved safe and no more; what a text asks and what an index
 // answers is promised by `line` and `slots`.
+#![tactic(auto)]
+
 ghost use Rattle.std.specs.Prelude.{◌≡◌, ◌≤◌, length};
 
 use libc::{STDIN_FILENO, STDOUT_FILENO};

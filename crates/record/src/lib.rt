@@ -1,5 +1,7 @@
 // One record: its check, its count, and where its parts and its blocks lie. A record comes as the part of the index that it is. Names are the paper's:
 // u, the cut, n tail slots in m blocks of `block` slots, their entries and their codes.
+#![tactic(auto)]
+
 ghost use Rattle.std.specs.Prelude.{◌&&◌, ◌≡◌, ◌+◌, ◌*◌, ◌-◌, ◌≤◌, ◌<◌, min, ltb, eqb, length, drop};
 ghost use Rattle.paper.specs.Bytes.{ceil_div};
 ghost use Rattle.paper.specs.Tail.{end_of, read_blocks, read_tail};

@@ -1,4 +1,6 @@
 // How much room to reserve for a record, before its slots are looked at: the refusals, and the number of bytes.
+#![tactic(auto)]
+
 ghost use Rattle.std.specs.Prelude.{◌≡◌, ◌-◌, ◌≤◌, ◌<◌};
 ghost use Rattle.paper.specs.Refusal.{verdict};
 ghost use Rattle.paper.specs.Reserve.{most_bytes, bound_fault};

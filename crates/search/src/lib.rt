@@ -1,6 +1,8 @@
 // The doubling search over the skip entries of a list, the block that it leads to, and the next slot of a list from a slot on. There is one search:
 // it holds entries against x, says how many, and leads to a block j; the next slot goes by that block and the one behind it alone, and a slot is
 // found where the next one is the slot itself.
+#![tactic(auto)]
+
 ghost use Rattle.std.specs.Prelude.{◌≡◌, ◌+◌, ◌*◌, ◌≤◌, ◌<◌, length};
 ghost use Rattle.paper.specs.Lists.{has, first_from};
 ghost use Rattle.paper.specs.Record.{tail_of, record_fault};

@@ -1,5 +1,7 @@
 // One block read from its first slot on, up to a slot that is not below x. It tells the codes that it took, and took them: eight of one byte may be taken at
 // once, and none that it reports is left unread.
+#![tactic(auto)]
+
 ghost use Rattle.std.specs.Prelude.{◌≡◌, ◌+◌, ◌-◌, ◌≤◌, ◌<◌, ltb, length, drop};
 ghost use Rattle.paper.specs.Lists.{pick};
 ghost use Rattle.paper.specs.Block.{read_codes};

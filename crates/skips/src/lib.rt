@@ -1,5 +1,7 @@
 // The way by skips through one list: the candidates are tried in it one after the other, lowest first, and the ones that it lacks are dropped
 // where they stand.
+#![tactic(auto)]
+
 ghost use Rattle.std.specs.Prelude.{◌≤◌, take};
 ghost use Rattle.paper.specs.Held.{listed};
 ghost use Rattle.paper.specs.Walk.{walk_list};

@@ -1,4 +1,6 @@
 // The library: every operation answers for any bytes and any numbers, and its promise says all of its answer.
+#![tactic(auto)]
+
 ghost use Rattle.std.specs.Prelude.{◌≡◌, ◌+◌, ◌≤◌, length};
 ghost use Rattle.paper.specs.Bytes as bytes;
 ghost use Rattle.paper.specs.Look.{MeetsLook};

@@ -1,6 +1,8 @@
 // The library for callers in other languages: each public operation once more, as a function of the C calling convention.
 // A slice comes as two arguments, pointer and length, and a number as itself. The fields of an answer go to a slice of u64 that the
 // caller lends, since a u64 holds each of them: a shorter slice takes those that fit, and what stood behind them stays.
+#![tactic(auto)]
+
 ghost use Rattle.std.specs.Prelude.{◌≡◌, ◌≤◌, ◌∷◌, [], set};
 ghost use Rattle.std.proofs.lemmas.List.Edits.{sets};
 ghost use Rattle.paper.specs.Lists.{bit_of};

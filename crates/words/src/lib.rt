@@ -1,5 +1,7 @@
 // A test as a number; numbers of four bytes, read and written, and of eight, read; and the bits of a bit part: one bit, setting one, whether any is
 // set beyond a cut, how many are set up to it, and the next one from a slot on.
+#![tactic(auto)]
+
 ghost use Rattle.std.specs.Prelude.{◌≡◌, false, ◌+◌, ◌-◌, ◌*◌, ◌%◌, ◌≤◌, ◌<◌, ltb, length};
 ghost use Rattle.std.proofs.lemmas.List.Edits.{sets};
 ghost use Rattle.paper.specs.Lists.{bit_of};
