@@ -90,6 +90,7 @@ module _ (u : ℕ) where
 
 -- each of them is above p and within u
 pub in_rising : (u p x : ℕ) (xs : List ℕ) → Ascends u p xs → In x xs → (p < x) × (x ≤ u)
+in_rising u p x [] a x4 = elim x4 [ ]
 in_rising u p x (y ∷ ys) a (here e) = rw e (a.0, a.1)
 in_rising u p x (y ∷ ys) a (there i) = let t = in_rising u y x ys a.2 i in (omega (arith, a.0), t.1)
 
