@@ -36,6 +36,7 @@ module _ (bs : List ℕ) (x : ℕ) where
 
   all_in : (names : List ℕ) → in_all (lists names) x ≡ true → (n : ℕ) → In n names → In x (held bs n)
   unfolding in_all held
+  all_in [] h n x3 = elim x3 [ ]
   all_in (m ∷ names) h n (here e) = in_has x (held bs n) (rw e ((and-eq-true_iff (has x (held bs m)) (in_all (lists names) x)).0 h).0)
   all_in (m ∷ names) h n (there i) = all_in names ((and-eq-true_iff (has x (held bs m)) (in_all (lists names) x)).0 h).1 n i
 
