@@ -4,45 +4,11 @@
 
 ghost use Rattle.std.specs.Prelude.{◌≡◌, ◌≤◌, length};
 ghost use Rattle.paper.specs.Block.{read_codes};
-ghost use Rattle.checks.specs.Checks.{checked};
+ghost use Rattle.codes.specs.InBlock.{checked};
 
-use codes::{Got, read_code};
+use codes::Checked;
 use glance::{singles, totals, triples};
 use words::byte;
-
-// What checking the codes of a block tells: the first fault (0: none), and the last slot before it.
-#[derive(Drop)]
-pub struct Checked {
-    pub fault: u32,
-    pub last: u32,
-}
-
-// Checks that `s` is `count` codes behind the slot `first`, and nothing more, code by code. The gap is held against what is left up to u, so that no sum
-// can leave the range.
-fn read_codes(s: &[u8], count: u32, first: u32, u: u32) -> Checked
-    requires { first ≤ u }
-    ensures { result ≡ checked first (read_codes u count first s.now) }
-{
-    let mut at: usize = 0;
-    let mut left = count;
-    let mut last = first;
-    while 0 < left {
-        let got = read_code(s, at);
-        let Got::Value(v, next) = got else {
-            return Checked { fault: 8, last };
-        };
-        if u - last <= v {
-            return Checked { fault: 9, last };
-        }
-        last = last + v + 1;
-        at = next;
-        left = left - 1;
-    }
-    if at < s.len() {
-        return Checked { fault: 8, last };
-    }
-    Checked { fault: 0, last }
-}
 
 // Where a glance does not do: the fault is left to the exact reading.
 fn unsure(first: u32) -> Checked
@@ -167,5 +133,5 @@ pub fn check_codes(s: &[u8], count: u32, first: u32, u: u32) -> Checked
     if wide.fault == 0 {
         return wide;
     }
-    read_codes(s, count, first, u)
+    codes::check_codes(s, count, first, u)
 }

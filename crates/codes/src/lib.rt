@@ -1,4 +1,4 @@
-// One code of one to three bytes, read, measured and written.
+// Codes of one to three bytes, read, measured and written. The bytes of one block come as a slice of their own and are read once, from its start to its end.
 #![tactic(auto)]
 
 ghost use Rattle.std.specs.Prelude.{◌≡◌, ◌+◌, ◌≤◌, ◌<◌, length, drop};
@@ -6,7 +6,10 @@ ghost use Rattle.std.proofs.lemmas.List.Edits.{sets};
 ghost use Rattle.paper.specs.Bytes.{byte_at};
 ghost use Rattle.paper.specs.Code.{code_of, code_bytes};
 ghost use Rattle.paper.specs.Code.Code.{code};
+ghost use Rattle.paper.specs.Block.{read_codes};
+ghost use Rattle.paper.specs.Walk.{seek};
 ghost use Rattle.codes.specs.Got.{as_code, Inside, Stands};
+ghost use Rattle.codes.specs.InBlock.{checked, stopped};
 
 use words::{byte, one};
 
@@ -95,6 +98,76 @@ pub fn known_code(s: &[u8], at: usize) -> Known
         return Known { value: a, next };
     }
     known_two(s, at, a)
+}
+
+// What checking the codes of a block tells: the first fault (0: none), and the last slot before it.
+#[derive(Drop)]
+pub struct Checked {
+    pub fault: u32,
+    pub last: u32,
+}
+
+// Checks that `s` is `count` codes behind the slot `first`, and nothing more. The gap is held against what is left up to u, so that no sum
+// can leave the range.
+pub fn check_codes(s: &[u8], count: u32, first: u32, u: u32) -> Checked
+    requires { first ≤ u }
+    ensures { result ≡ checked first (read_codes u count first s.now) }
+{
+    let mut at: usize = 0;
+    let mut left = count;
+    let mut last = first;
+    while 0 < left {
+        let got = read_code(s, at);
+        let Got::Value(v, next) = got else {
+            return Checked { fault: 8, last };
+        };
+        if u - last <= v {
+            return Checked { fault: 9, last };
+        }
+        last = last + v + 1;
+        at = next;
+        left = left - 1;
+    }
+    if at < s.len() {
+        return Checked { fault: 8, last };
+    }
+    Checked { fault: 0, last }
+}
+
+// Where reading in a block stopped: the slot (0 where it came to no slot that is not below x), and the codes that it took.
+#[derive(Drop)]
+pub struct Stopped {
+    pub slot: u32,
+    pub codes: u32,
+}
+
+// Reads a block from its first slot on until a slot that is not below x, or to its end.
+pub fn seek_in(s: &[u8], count: u32, first: u32, u: u32, x: u32) -> Stopped
+    requires { first ≤ u }
+    ensures { result ≡ stopped 0 (seek x first (read_codes u count first s.now).slots) }
+{
+    let mut at: usize = 0;
+    let mut codes: u32 = 0;
+    let mut slot = first;
+    while codes < count {
+        if x <= slot {
+            return Stopped { slot, codes };
+        }
+        let got = read_code(s, at);
+        let Got::Value(v, next) = got else {
+            return Stopped { slot: 0, codes };
+        };
+        if u - slot <= v {
+            return Stopped { slot: 0, codes };
+        }
+        slot = slot + v + 1;
+        at = next;
+        codes = codes + 1;
+    }
+    if x <= slot {
+        return Stopped { slot, codes };
+    }
+    Stopped { slot: 0, codes }
 }
 
 // How many bytes the code of v takes: as few as hold it. There is no branch on v, so that the compiler measures several values side by side.

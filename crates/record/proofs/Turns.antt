@@ -13,8 +13,8 @@ use Rattle.paper.specs.Tail.{Tail, end_of, read_blocks}
 use Rattle.laws.proofs.Rounding.{ceil_some, ceil_next}
 use Rattle.laws.proofs.Tails as tails
 use Rattle.laws.proofs.Words.{word_drop}
-use Rattle.checks.specs.declared.Checked.{Checked}
-use Rattle.checks.specs.Checks.{checked}
+use Rattle.codes.specs.declared.Checked.{Checked}
+use Rattle.codes.specs.InBlock.{checked}
 
 -- where the block whose entry is at byte e ends, k blocks being left
 module _ (L : ℕ) (es : List ℕ) (e k : ℕ) where

@@ -10,8 +10,8 @@ use Rattle.paper.specs.Held.{entry_of}
 use Rattle.paper.specs.Search.{Sought, at, saw, mid, halved, galloped, searched}
 use Rattle.paper.specs.Walk.{seek, seek_in}
 use Rattle.laws.proofs.Searches.{entry_at, halve_one, halve_up, halve_down, halve_few, gallop_past, gallop_fail, gallop_good}
-use Rattle.seeks.specs.declared.Stopped.{Stopped}
-use Rattle.seeks.specs.Sought.{stopped}
+use Rattle.codes.specs.declared.Stopped.{Stopped}
+use Rattle.codes.specs.InBlock.{stopped}
 use Rattle.record.specs.declared.BlockAt.{BlockAt}
 use Rattle.record.specs.Opened.{LiesAt}
 use Rattle.search.specs.declared.Found.{Found}

@@ -18,8 +18,8 @@ use Rattle.paper.specs.Walk.{Seek, Try, seek_in, or_behind, tried}
 use Rattle.laws.proofs.Searches.{search_alike, search_below}
 use Rattle.meaning.proofs.Sound.{blocks_of, skips_of, has_bit}
 use Rattle.meaning.proofs.Trying.{none_sought, try_bit, try_search, try_found, next_is, holds_is}
-use Rattle.seeks.specs.declared.Stopped.{Stopped}
-use Rattle.seeks.specs.Sought.{stopped}
+use Rattle.codes.specs.declared.Stopped.{Stopped}
+use Rattle.codes.specs.InBlock.{stopped}
 use Rattle.record.specs.declared.Parts.{Parts}
 use Rattle.record.specs.Opened.{Opened}
 use Rattle.record.proofs.Opening.{cut_is, m_is, bits_are, bits_hold, entries_are}

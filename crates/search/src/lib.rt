@@ -9,12 +9,13 @@ ghost use Rattle.paper.specs.Record.{tail_of, record_fault};
 ghost use Rattle.paper.specs.Held.{contents, listed, entry_of};
 ghost use Rattle.paper.specs.Search.{halved, searched};
 ghost use Rattle.paper.specs.Walk.{seek_in, or_behind, tried};
-ghost use Rattle.seeks.specs.Sought.{stopped};
+ghost use Rattle.codes.specs.InBlock.{stopped};
 ghost use Rattle.record.specs.Opened.{Opened};
 ghost use Rattle.search.specs.Told.{found, as_try, told};
 
 use record::{Parts, block_at, parts_of};
-use seeks::{Stopped, seek_in};
+use codes::Stopped;
+use seeks::seek_in;
 use words::{bit, next_bit, u32_at};
 
 // What a search gives: j, and how many entries it looked at.

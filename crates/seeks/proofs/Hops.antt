@@ -14,8 +14,9 @@ use Rattle.paper.specs.Walk.{seek}
 use Rattle.quick.specs.Sums.{digits}
 use Rattle.quick.proofs.Places.{digits_next}
 use Rattle.codes.proofs.Sound as sound
-use Rattle.seeks.specs.declared.Stopped.{Stopped}
-use Rattle.seeks.specs.Sought.{stopped, Head}
+use Rattle.codes.specs.declared.Stopped.{Stopped}
+use Rattle.codes.specs.InBlock.{stopped}
+use Rattle.seeks.specs.Sought.{Head}
 use Rattle.seeks.proofs.Turns.{code_below, seek_turn}
 
 module _ (x u : ℕ) (bs : List ℕ) (count : ℕ) (t : Stopped) (all : length bs ≡ count) where

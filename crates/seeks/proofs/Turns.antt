@@ -13,8 +13,9 @@ use Rattle.laws.proofs.Blocks as blocks
 use Rattle.laws.proofs.Seeking.{seek_here, seek_out, seek_on}
 use Rattle.codes.specs.Got.{Stands}
 use Rattle.codes.proofs.Sound as sound
-use Rattle.seeks.specs.declared.Stopped.{Stopped}
-use Rattle.seeks.specs.Sought.{stopped, Head}
+use Rattle.codes.specs.declared.Stopped.{Stopped}
+use Rattle.codes.specs.InBlock.{stopped}
+use Rattle.seeks.specs.Sought.{Head}
 
 -- seeking: none is read
 pub seek_begin : (x u : ℕ) (bs : List ℕ) (count y : ℕ) → y ≤ u → (read_codes u count y bs).fault ≡ 0

@@ -1,12 +1,9 @@
--- What seeking in a block answers, in the paper's terms.
-use Rattle.std.specs.Prelude.{ℕ, ◌+◌, ◌-◌, ◌≤◌, ◌≡◌, List, drop}
+-- How far seeking in a block without a fault has come.
+use Rattle.std.specs.Prelude.{ℕ, ◌-◌, ◌≤◌, ◌≡◌, List, drop}
 use Rattle.paper.specs.Block.{read_codes}
-use Rattle.paper.specs.Walk.{Seek, seek}
-use Rattle.seeks.specs.declared.Stopped.{Stopped}
-
--- where it stopped, n codes having been read before
-abbrev pub stopped : ℕ → Seek → Stopped
-stopped n t = record { slot = t.slot; codes = n + t.codes }
+use Rattle.paper.specs.Walk.{seek}
+use Rattle.codes.specs.declared.Stopped.{Stopped}
+use Rattle.codes.specs.InBlock.{stopped}
 
 -- seeking that answers t: n codes are read and y is the slot read last; the others are left from position p on, without a fault
 pub record Head (x u : ℕ) (bs : List ℕ) (count : ℕ) (t : Stopped) (p n y : ℕ) : Type 0 where

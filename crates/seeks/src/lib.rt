@@ -6,18 +6,12 @@ ghost use Rattle.std.specs.Prelude.{◌≡◌, ◌+◌, ◌-◌, ◌≤◌, ◌<
 ghost use Rattle.paper.specs.Lists.{pick};
 ghost use Rattle.paper.specs.Block.{read_codes};
 ghost use Rattle.paper.specs.Walk.{seek};
-ghost use Rattle.seeks.specs.Sought.{stopped, Head};
+ghost use Rattle.codes.specs.InBlock.{stopped};
+ghost use Rattle.seeks.specs.Sought.{Head};
 
-use codes::known_code;
+use codes::{Stopped, known_code};
 use glance::eight;
 use words::{byte, one};
-
-// Where reading in a block stopped: the slot (0 where it came to no slot that is not below x), and the codes that it took.
-#[derive(Drop)]
-pub struct Stopped {
-    pub slot: u32,
-    pub codes: u32,
-}
 
 // The slot behind y by the code b, where y is below x; else y.
 fn onward(y: u32, b: u32, x: u32) -> u32
