@@ -1,4 +1,5 @@
 pub mod Filling
 pub mod InBits
 pub mod InCodes
+pub mod ReadCodes
 pub mod InBlocks

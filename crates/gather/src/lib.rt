@@ -13,7 +13,7 @@ ghost use Rattle.gather.specs.Shown.{Shown};
 ghost use Rattle.record.specs.Opened.{Opened};
 ghost use Rattle.record.specs.Front.{Front};
 
-use codes::known_code;
+use codes::{Got, known_code, read_code};
 use record::{Parts, block_at};
 use words::{bit, byte, one};
 
@@ -83,6 +83,33 @@ fn gather_bits(bits: &[u8], cut: u32, slots: &mut [u32]) -> usize
     w
 }
 
+// Puts the slots that the codes of a block give behind the `at` slots that stand there. In a sound block no code is bad and none leads above u;
+// the definition stops there for any bytes, and so does this.
+pub fn gather_codes(s: &[u8], count: u32, first: u32, u: u32, slots: &mut [u32], at: usize) -> usize
+    requires { (first ≤ u) × (at + count ≤ length slots.old) }
+    ensures { Front (take at slots.old ++ (read_codes u count first s.now).slots) result slots.new }
+{
+    let mut p: usize = 0;
+    let mut left = count;
+    let mut slot = first;
+    let mut w = at;
+    while 0 < left {
+        let got = read_code(s, p);
+        let Got::Value(v, next) = got else {
+            return w;
+        };
+        if u - slot <= v {
+            return w;
+        }
+        slot = slot + v + 1;
+        slots[w] = slot;
+        w = w + 1;
+        p = next;
+        left = left - 1;
+    }
+    w
+}
+
 // Puts the slots of a block that has as many bytes as codes behind the `at` slots that stand there. Each byte is a code then, and where it ends is not asked: nothing but a sum
 // leads from one turn to the next.
 fn gather_ones(s: &[u8], count: u32, first: u32, u: u32, slots: &mut [u32], at: usize) -> usize
@@ -101,7 +128,7 @@ fn gather_ones(s: &[u8], count: u32, first: u32, u: u32, slots: &mut [u32], at: 
 }
 
 // Puts the slots that the codes of a block give behind the `at` slots that stand there. The block is known to have no fault, so that a code stands wherever one is left.
-fn gather_codes(s: &[u8], count: u32, first: u32, u: u32, slots: &mut [u32], at: usize) -> usize
+fn gather_known(s: &[u8], count: u32, first: u32, u: u32, slots: &mut [u32], at: usize) -> usize
     requires { ((read_codes u count first s.now).fault ≡ 0) × (at + count ≤ length slots.old) }
     ensures { Front (take at slots.old ++ (read_codes u count first s.now).slots) result slots.new }
 {
@@ -137,7 +164,7 @@ fn gather_blocks(rec: &[u8], p: Parts, slots: &mut [u32], at: usize) -> usize
         let start = b.start;
         let end = b.end;
         slots[w] = b.first;
-        w = gather_codes(&rec[start..end], b.count, b.first, u, slots, w + 1);
+        w = gather_known(&rec[start..end], b.count, b.first, u, slots, w + 1);
         nth = nth + 1;
     }
     w

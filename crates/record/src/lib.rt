@@ -141,7 +141,7 @@ pub fn count_record(rec: &[u8]) -> u32
 
 // Where the parts of a record lie, and the numbers that go with them: the bits from 12 up to `from`, m entries up to `to`, then the codes of
 // n slots above the cut.
-#[derive(Drop)]
+#[derive(Clone, Copy)]
 pub struct Parts {
     pub u: u32,
     pub block: u32,
