@@ -13,8 +13,8 @@ ghost use Rattle.codes.specs.InBlock.{stopped};
 ghost use Rattle.record.specs.Opened.{Opened};
 ghost use Rattle.search.specs.Told.{found, as_try, told};
 
-use record::{Parts, block_at, parts_of};
 use codes::Stopped;
+use record::{Parts, block_at, parts_of};
 use seeks::seek_in;
 use words::{bit, next_bit, u32_at};
 
