@@ -1,131 +1,65 @@
--- Block after block, and the whole list.
-use Prim.Native.Nat.{ℕ, ◌+◌, ◌*◌, ◌-◌, ◌≤◌, ◌<◌, min}
-use mathlib.Core.Path.{◌≡◌, refl, sym, ap, ◌∙◌}
-use mathlib.Core.Bool.{Bool}
-use mathlib.Core.List.{List, [], ◌∷◌, ◌++◌, flatten, append_assoc, append-nil}
+-- Block after block, and the whole list: what the parts of a merge leave makes up what is said of the whole.
+use Prim.Native.Nat.{ℕ, ◌+◌, ◌≤◌, ◌<◌}
+use mathlib.Core.Path.{◌≡◌, sym, ap, ◌∙◌}
+use mathlib.Core.List.{List, ◌∷◌, ◌++◌, flatten, append_assoc}
 use native.Mathlib.Omega.{arith}
-use lib.ListN.{length, get_or, take, drop}
-use Rattle.paper.specs.Lists.{has, keep}
-use Rattle.paper.specs.Bytes.{part, u32_at}
-use Rattle.paper.specs.Tail.{end_of}
+use lib.ListN.{length, take}
+use Rattle.paper.specs.Bytes.{part}
 use Rattle.paper.specs.Record.{cut_of, bits_of, bit_at, tail_of}
-use Rattle.paper.specs.Held.{contents}
-use Rattle.laws.proofs.Blocks.{slots_none}
-use Rattle.laws.proofs.Lists.{has_none}
-use Rattle.laws.proofs.Parts.{part_none}
-use Rattle.meaning.proofs.Rising.{Ascends}
-use Rattle.meaning.proofs.Sound.{tail_rise, has_bit, has_tail}
+use Rattle.paper.specs.Held.{listed}
 use Rattle.record.specs.declared.Parts.{Parts}
 use Rattle.record.specs.declared.BlockAt.{BlockAt}
 use Rattle.record.specs.Opened.{Opened, LiesAt}
 use Rattle.record.specs.Front.{Front}
-use Rattle.record.proofs.Opening.{slots_behind, slots_from, cut_is, bits_are, slots_end, slots_next, lies}
-use Rattle.plain.specs.Sifted.{up_to, Told}
-use Rattle.plain.specs.Marks.{Clear}
-use Rattle.plain.specs.Waiting.{whole, Waits, AtBlock, Below}
-use Rattle.plain.proofs.Waiting.{Comes, keep_same, keep_none, left_rise, both, passed, none_left, passed_over}
+use Rattle.record.proofs.Opening.{slots_behind, slots_from, cut_is, bits_are, slots_end, slots_next}
+use Rattle.plain.specs.Sifted.{Sifted, behind, up_to, by_slots, plainly, Told}
+use Rattle.plain.proofs.Steps.{slots_none, slots_join}
+use Rattle.plain.proofs.Merging.{Merging, begun, none_left, all_left}
 
--- nothing is kept of the candidates left: those that stand kept are all
-module _ (slots : List ℕ) (count kept next : ℕ) (s : List ℕ) (few : kept ≤ length s) where
-  only_kept : keep (λ x. has x slots) (part s next count) ≡ [] → Front (whole slots count kept next s) kept s
-  only_kept e = record { few = few; are = sym (append-nil (take kept s)) ∙ ap (λ (v : List ℕ). take kept s ++ v) (sym e) }
+-- by the slots ys, and then by zs
+joined : (w : Sifted) (long count kept next : ℕ) (s ys zs : List ℕ) → Merging w (by_slots (ys ++ zs)) long count kept next s → (m n : ℕ) (t : List ℕ)
+    → Told (behind (take kept s) (by_slots ys (part s next count))) count m n t → length t ≡ length s → Merging w (by_slots zs) long count m n t
+joined w long count kept next s ys zs h m n t told e =
+    record {
+      low = told.low;
+      within = told.within;
+      room = told.room;
+      same_length = e ∙ h.same_length;
+      same = rw (told.front, told.rest, append_assoc) (ap (behind (take kept s)) (sym (slots_join ys zs (part s next count))) ∙ h.same);
+    }
 
-  none_there : count ≤ next → Front (whole slots count kept next s) kept s
-  unfolding keep
-  none_there l = only_kept (rw (part_none s next count l))
+-- what is told stands at the front
+told_front : (w : Sifted) (count kept next : ℕ) (s : List ℕ) → Told w count kept next s → Front w.kept kept s
+told_front w count kept next s t = record { few = omega arith; are = t.front }
 
-module _ (u B : ℕ) (r : List ℕ) (p : Parts) (o : Opened u B r p) where
-  -- the slots behind the cut
-  abbrev slots : List ℕ
-  slots = slots_from u B r 0
-
-  -- block `nth` comes: its first slot is the base of a piece
-  pub block_begin : (nth : ℕ) → nth < p.m → (w t : List ℕ) (count kept next : ℕ) (s : List ℕ) → Waits u slots (slots_from u B r nth) w t count kept next s
-      → (q : BlockAt) → LiesAt u B r nth q
-      → Comes u slots (slots_from u B r (nth + 1)) w t count kept next s (part r q.start q.end) 0 q.count q.first
-  block_begin nth l w t count kept next s h q is =
-      record { reads = record { low = is.low; small = o.small; sound = is.reads }; waits = rw (slots_next u B r p o nth l q is) at h }
-
-  -- where a block lies
-  found : (b : ℕ) → b < p.m → (q : BlockAt) × (q.first ≡ u32_at r (p.from + 8 * b)) × LiesAt u B r b q
-  found b l = (_, refl, lies u B r p o b l _ refl _ _ _ refl refl refl)
-
-  module _ (nth : ℕ) (l : nth < p.m) (w t : List ℕ) (count kept next : ℕ) (s : List ℕ) (h : Waits u slots (slots_from u B r nth) w t count kept next s) where
-    -- block `nth` is passed over
-    pub block_passed : next < count → Below p r nth (get_or s next 0) → Waits u slots (slots_from u B r (nth + 1)) w t count kept next s
-    block_passed k b =
-        let q = found nth l in
-        let n = found (nth + 1) b.further in
-        passed_over u slots (q.0.first ∷ slots_behind u r q.0) (slots_from u B r (nth + 1)) w t count kept next s
-        (rw (slots_next u B r p o nth l q.0 q.2) at h)
-        n.0.first _ (slots_next u B r p o (nth + 1) b.further n.0 n.2) k (rw n.1 b.low)
-
-  module _ (nth : ℕ) (w t : List ℕ) (count kept next : ℕ) (s : List ℕ) (h : Waits u slots (slots_from u B r nth) w t count kept next s) where
+module _ (u B : ℕ) (r : List ℕ) where
+  module _ (ks : List ℕ) (v : Sifted) (long count kept next : ℕ) (s : List ℕ) (nth : ℕ)
+      (h : Merging (behind ks v) (by_slots (slots_from u B r nth)) long count kept next s) where
     -- no candidate is left
-    pub all_told : count ≤ next → Front w kept s
-    all_told e = let l = h.low in let m = h.within in let k = h.room in rw (← h.same) (none_there slots count kept next s (omega arith) e)
+    pub blocks_none : count ≤ next → Front (ks ++ v.kept) kept s
+    blocks_none l = told_front _ count kept next s (none_left _ _ long count kept next s h l (slots_none (slots_from u B r nth)))
 
-    -- no block is left
-    pub blocks_done : p.m ≤ nth → Front w kept s
-    blocks_done e =
-        let l = h.low in
-        let m = h.within in
-        let k = h.room in
-        rw (← h.same)
-        (only_kept slots count kept next s (omega arith)
-        (keep_none (λ x. has x slots) u h.floor (λ x f. h.ahead x f ∙ ap (has x) (slots_end u B r p o nth e) ∙ has_none x) (part s next count) h.rise))
+    module _ (p : Parts) (o : Opened u B r p) where
+      -- no block is left
+      pub blocks_end : p.m ≤ nth → Front (ks ++ v.kept) kept s
+      unfolding by_slots
+      blocks_end l = told_front _ count kept next s (all_left _ _ long count kept next s h (rw (slots_end u B r p o nth l)))
 
-  -- Candidates that rise above the cut
-  module _ (count kept next : ℕ) (s : List ℕ) (low : kept ≤ next) (within : next ≤ count) (room : count ≤ length s) (rise : Ascends u p.cut (part s next count)) where
-    -- there is no block
-    pub no_blocks : p.m ≡ 0 → Front (whole slots count kept next s) kept s
-    no_blocks z =
-        only_kept slots count kept next s (omega arith)
-        (keep_none (λ x. has x slots) u p.cut (λ x f. ap (has x) (slots_end u B r p o 0 (omega arith)) ∙ has_none x) (part s next count) rise)
+      -- a block is gone through
+      pub blocks_turn : nth < p.m → (q : BlockAt) → LiesAt u B r nth q → (m n : ℕ) (t : List ℕ)
+          → Told (behind (take kept s) (by_slots (q.first ∷ slots_behind u r q) (part s next count))) count m n t
+          → length t ≡ length s → Merging (behind ks v) (by_slots (slots_from u B r (nth + 1))) long count m n t
+      blocks_turn l q is m n t told e = joined _ long count kept next s _ _ (rw (slots_next u B r p o nth l q is) at h) m n t told e
 
-    -- there are none
-    pub no_candidates : count ≤ next → Front (whole slots count kept next s) kept s
-    no_candidates e = none_there slots count kept next s (omega arith) e
+-- the loop over the blocks, from its start on
+pub ruleset by_blocks = (begun, blocks_none, blocks_end, blocks_turn)
 
-    -- all slots are to come
-    pub blocks_begin : (t : List ℕ) → Clear 0 t → Waits u slots slots (whole slots count kept next s) t count kept next s
-    blocks_begin t c =
-        record {
-          floor = p.cut;
-          low = low;
-          within = within;
-          room = room;
-          rise = rise;
-          clear = record { long = c.long; none = λ x l k. c.none x (omega arith) k };
-          ahead = λ x l. refl;
-          above = rw (cut_is u B r p o) (tail_rise u B r o.some_b o.sound);
-          same = refl;
-        }
-
-  -- The whole list: the bits tell the candidates xs up to the cut
-  module _ (count : ℕ) (s : List ℕ) (rise : Ascends u 0 (take count s)) (kept next : ℕ) (t : List ℕ)
-      (told : Told (up_to p.cut (bit_at (part r 12 p.from)) (take count s)) count kept next t) where
-    abbrev left : List ℕ
-    left = (up_to p.cut (bit_at (part r 12 p.from)) (take count s)).left
-
-    left_above : Ascends u p.cut left
-    left_above = left_rise u p.cut (bit_at (part r 12 p.from)) 0 (take count s) rise
-
-    -- the others are above it
-    pub above_cut : Ascends u p.cut (part t next count)
-    above_cut = rw told.rest left_above
-
-    -- and those of them that are slots behind it make up all that the list holds
-    pub merged : (m : ℕ) (v : List ℕ) → Front (whole slots count kept next t) m v → Front (keep (λ x. has x (contents u B r)) (take count s)) m v
-    merged m v f =
-        let c = cut_is u B r p o in
-        record {
-          few = f.few;
-          are =
-              f.are
-              ∙ rw (told.front, told.rest)
-              (ap (λ (l : List ℕ). (up_to p.cut (bit_at (part r 12 p.from)) (take count s)).kept ++ l)
-              (keep_same (λ x. has x slots) (λ x. has x (contents u B r)) u p.cut (λ x l. sym (has_tail u B r o.some_b o.sound x (omega arith))) left left_above)
-              ∙ both u p.cut (bit_at (part r 12 p.from)) (λ x. has x (contents u B r)) 0
-              (λ x l k. rw (bits_are u B r p o) (sym (has_bit u B r o.some_b o.sound x (omega arith) (omega arith)))) (take count s) rise);
-        }
+-- The whole list: its bits, and then its blocks
+module _ (u B : ℕ) (r : List ℕ) (p : Parts) (o : Opened u B r p) where
+  -- what the bits leave, and then the blocks, is what is said of the whole
+  pub merged : (count kept next : ℕ) (s t : List ℕ) → Told (up_to p.cut (bit_at (part r 12 p.from)) (take count s)) count kept next t → (m : ℕ) (v : List ℕ)
+      → Front (take kept t ++ (by_slots (flatten (tail_of u B r).blocks) (part t next count)).kept) m v → Front (plainly (listed u B r) (take count s)) m v
+  unfolding plainly listed
+  merged count kept next s t told m v f =
+      let w : up_to p.cut (bit_at (part r 12 p.from)) (take count s) ≡ up_to (cut_of r) (bit_at (bits_of r)) (take count s) = rw (cut_is u B r p o, bits_are u B r p o) in
+      record { few = f.few; are = f.are ∙ rw (told.front, told.rest, w) }

@@ -1,7 +1,5 @@
 pub mod Steps
 pub mod Merging
 pub mod Turns
-pub mod Tables
-pub mod Pieces
-pub mod Waiting
 pub mod Joining
+pub mod Meant

@@ -1,3 +1,1 @@
 pub mod Sifted
-pub mod Marks
-pub mod Waiting

@@ -1,0 +1,5 @@
+pub mod Turns
+pub mod Tables
+pub mod Pieces
+pub mod Waiting
+pub mod Joining
