@@ -92,14 +92,14 @@ module _ (text : List ℕ) (at i : ℕ) (s : Skipped text at i) where
 
   module _ (h : i < length text) (b : ℕ) (is : b ≡ byte_at text i) (t : Bool) (test : t ≡ is_parting b) where
     -- a byte that is no parting byte
-    pub skip_stop : not t ≡ true → Begins text at i
-    skip_stop p = record { behind = s.behind; near = s.near; same = s.same; none_there = λ _. rw (← is) (sym test ∙ not-true t p) }
+    pub skip_stop : t ≡ false → Begins text at i
+    skip_stop p = record { behind = s.behind; near = s.near; same = s.same; none_there = λ _. rw (← is) (sym test ∙ p) }
 
     -- one more parting byte
-    pub skip_more : not t ≡ false → Skipped text at (i + 1)
+    pub skip_more : t ≡ true → Skipped text at (i + 1)
     skip_more p =
         let lo = s.behind in
-        record { behind = omega arith; near = omega arith; same = parting_outside text i h b is (sym test ∙ not-false t p) ∙ s.same }
+        record { behind = omega arith; near = omega arith; same = parting_outside text i h b is (sym test ∙ p) ∙ s.same }
 
 -- all of these
 pub ruleset skips = (skip_none, skip_end, skip_stop, skip_more)

@@ -64,7 +64,7 @@ loop-again c =
     let block = entry.before.before in
     let body = block.before.before in
     let head = body.before in
-    fill_turn head.loop.invariant head.before.before.before.requires.0 body.loop-test.true _ block.Block-to.ensures _ refl _ _ _
+    fill_turn head.loop.invariant head.before.before.before.requires.0 body.loop-test.true _ block.block-to.ensures _ refl _ _ _
     entry.put-entry.ensures gaps.ensures.0 gaps.ensures.1
 
 same_length : tie.Need-same-length invariant-loop decreases-loop
