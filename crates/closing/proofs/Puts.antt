@@ -3,6 +3,7 @@ use Prim.Native.Nat.{ℕ, ◌+◌, ◌*◌, ◌-◌, ◌≤◌, ◌<◌}
 use mathlib.Core.Path.{◌≡◌, refl, ap, ◌∙◌}
 use mathlib.Core.List.{List, ◌++◌, map, flatten, append_assoc, append-nil}
 use native.Mathlib.Omega.{arith}
+use borrow.Rule.Slice.PartMut.{put_mid}
 use lib.ListN.{length, get_or, take, drop, length-append, length-drop, drop_of_length-le}
 use lib.Seq.{length-take-le, drop-drop, sets, sets-eq, length-sets}
 use Rattle.paper.specs.Lists.{on_front}
@@ -43,17 +44,13 @@ module _ {t : List ℕ} {size at : ℕ} {starts room : List ℕ} {i : ℕ} (h : 
         same = both.is ∙ (rw (front starts i x l refl) at h.same);
       }
 
--- t copied to the front of what stands from `at` on. (It is said of any t: with the tag's own bytes, `++` computes and the laws no longer fit)
-copied : (t l : List ℕ) (at : ℕ) (r : List ℕ) → at + length t ≤ length l → r ≡ t ++ drop (length t) (take (length l - at) (drop at l))
-    → take at l ++ (r ++ drop (length l - at) (drop at l)) ≡ sets l at t
-copied t l at r h e =
-    rw (e, part_end l at, drop_of_length-le (drop at l) {i = length l - at} (omega (arith, length-drop at l)), sets-eq t l at h)
-    (simp (append-nil, append_assoc, drop-drop))
+-- t put in the place of as many bytes from `at` on. (It is said of any t: with the tag's own bytes, `++` computes and the laws no longer fit)
+copied : (t l : List ℕ) (at n : ℕ) (r : List ℕ) → at + length t ≤ length l → n ≡ length t → r ≡ t → put_mid at n l r ≡ sets l at t
+copied t l at n r h w e = rw (w, e, sets-eq t l at h) (simp (append_assoc, drop-drop))
 
 -- and so the tag
-pub tag_put : (l : List ℕ) (at : ℕ) (r : List ℕ) → at + 4 ≤ length l → r ≡ tag ++ drop 4 (take (length l - at) (drop at l))
-    → take at l ++ (r ++ drop (length l - at) (drop at l)) ≡ sets l at tag
-tag_put l at r h e = copied tag l at r h e
+pub tag_put : (l : List ℕ) (at : ℕ) (r : List ℕ) → at + 4 ≤ length l → r ≡ tag → put_mid at (at + 4 - at) l r ≡ sets l at tag
+tag_put l at r h e = copied tag l at (at + 4 - at) r h (omega arith) e
 
 -- the trailer: its five numbers, and the tag
 pub trailer_put : (l : List ℕ) (at u B k D : ℕ) (r₁ r₂ r₃ r₄ r₅ r : List ℕ) → r₁ ≡ sets l at (u32_bytes 1) → r₂ ≡ sets r₁ (at + 4) (u32_bytes u)

@@ -157,7 +157,7 @@ fn put_tag(room: &mut [u8], at: usize)
     requires { at + 4 ≤ length room.old }
     ensures { room.new ≡ sets room.old at tag }
 {
-    bytes::copy(&TAG, &mut room[at..]);
+    room[at..at + 4].copy_from_slice(&TAG);
 }
 
 // Writes the trailer from `at` on. The edition is 1.
