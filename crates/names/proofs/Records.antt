@@ -22,6 +22,7 @@ use Rattle.record.specs.Front.{Front}
 use Rattle.record.proofs.Opening.{bytes_inside, count_small}
 use Rattle.skips.specs.declared.Walked.{Walked}
 use Rattle.skips.specs.Walks.{Walks}
+use Rattle.plain.specs.Sifted.{plainly}
 use Rattle.names.specs.Asked.{Asked}
 
 -- an index that looking accepts
@@ -77,14 +78,19 @@ module _ (bs : List ℕ) (ok : (look bs).number ≡ 0) where
             → Walks (walk_list (listed (u_of bs) (block_length bs) (record_of bs name)) 0 xs) w s
         walked xs w s f = rw (pu, pB, isU, is_b, isR) at f
 
-        -- or are merged with it: they rise
+        -- or are merged with it
+        pub merged : (xs : List ℕ) (n : ℕ) (s : List ℕ) → Front (plainly (listed p.u p.block r) xs) n s
+            → Front (plainly (listed (u_of bs) (block_length bs) (record_of bs name)) xs) n s
+        merged xs n s f = rw (pu, pB, isU, isB, isR) at f
+
+        -- or, where they rise,
         pub rising : (xs : List ℕ) → Ascends (u_of bs) 0 xs → Ascends p.u 0 xs
         rising xs a = rw (pu, isU) a
 
         -- and those that it holds are kept
-        pub merged : (xs : List ℕ) (n : ℕ) (s : List ℕ) → Front (keep (λ x. has x (contents p.u p.block r)) xs) n s
+        pub kept_of_name : (xs : List ℕ) (n : ℕ) (s : List ℕ) → Front (keep (λ x. has x (contents p.u p.block r)) xs) n s
             → Front (keep (λ x. has x (contents (u_of bs) (block_length bs) (record_of bs name))) xs) n s
-        merged xs n s f = rw (pu, pB, isU, is_b, isR) at f
+        kept_of_name xs n s f = rw (pu, pB, isU, is_b, isR) at f
 
 -- Counting: of the names, i are counted
 pub record Counting (bs names : List ℕ) (size : ℕ) (counts : List ℕ) (i : ℕ) : Type 0 where

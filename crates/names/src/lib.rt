@@ -12,6 +12,7 @@ ghost use Rattle.paper.specs.Ask.{named};
 ghost use Rattle.meaning.proofs.Rising.{Ascends};
 ghost use Rattle.record.specs.Front.{Front, Candidates};
 ghost use Rattle.skips.specs.Walks.{Walks};
+ghost use Rattle.plain.specs.Sifted.{plainly};
 ghost use Rattle.names.specs.Asked.{Asked, list_named, slots_named};
 
 use frame::{from_end, start_of};
@@ -56,6 +57,18 @@ pub fn walk_name(index: &[u8], name: u32, slots: &mut [u32], count: usize) -> Wa
 
 // The candidates merged with one name's list.
 pub fn merge_name(index: &[u8], name: u32, slots: &mut [u32], count: usize) -> usize
+    requires { ((look index.now).number ≡ 0) × (name < k_of index.now) × Candidates count slots.old }
+    ensures { Front (plainly (list_named index.now name) (take count slots.old)) result slots.new }
+{
+    let u = from_end(index, 20);
+    let block = from_end(index, 16);
+    let rec = record_of(index, name);
+    let p = parts_of(rec, u, block);
+    merge(rec, p, slots, count)
+}
+
+// The candidates, which rise, merged with one name's list: those that it holds are kept.
+pub fn merge_rising(index: &[u8], name: u32, slots: &mut [u32], count: usize) -> usize
     requires { ((look index.now).number ≡ 0) × (name < k_of index.now) × Candidates count slots.old × Ascends (u_of index.now) 0 (take count slots.old) }
     ensures { Front (keep (λ x. has x (slots_named index.now name)) (take count slots.old)) result slots.new }
 {
@@ -63,7 +76,7 @@ pub fn merge_name(index: &[u8], name: u32, slots: &mut [u32], count: usize) -> u
     let block = from_end(index, 16);
     let rec = record_of(index, name);
     let p = parts_of(rec, u, block);
-    merge(rec, p, slots, count)
+    marks::merge(rec, p, slots, count)
 }
 
 // Counts each list named, once.

@@ -14,7 +14,7 @@ ghost use Rattle.question.specs.Answered.{Ordered, Ready, Gathered, Answers};
 
 use frame::from_end;
 use gather::clear;
-use names::{count_names, gather_name, merge_name, walk_name};
+use names::{count_names, gather_name, merge_rising, walk_name};
 use paper::{Answer, Verdict};
 use ranks::{good_names, order_of};
 
@@ -136,7 +136,7 @@ fn by_merging(index: &[u8], names: &[u32], order: &[u32], slots: &mut [u32]) -> 
     let mut r: usize = 1;
     while r < names.len() {
         let name = name_at(names, order, r);
-        left = merge_name(index, name, slots, left);
+        left = merge_rising(index, name, slots, left);
         r = r + 1;
     }
     left

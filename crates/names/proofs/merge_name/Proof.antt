@@ -1,6 +1,6 @@
 use Rattle.laws.proofs.Frames.{frame_looked}
 use Rattle.frame.proofs.Steps.{u_there, b_there, block_some}
-use Rattle.names.proofs.Records.{record_sound, u_small, rising, merged}
+use Rattle.names.proofs.Records.{record_sound, u_small, merged}
 use borrow.Author.Rules.{rules}
 use Rattle.names.proofs.merge_name.Statement.{statement}
 use Rattle.names.proofs.merge_name.Tie as tie
@@ -18,15 +18,13 @@ parts-of-requires : tie.Need-parts-of-requires
 parts-of-requires c κs = (search record_sound, search (block_some, frame_looked), search u_small)
 
 merge-requires : tie.Need-merge-requires
-merge-requires c κs = (search rules, search rules, search rising)
+merge-requires c κs = search rules
 
 same_length : tie.Need-same-length
 same_length c = search rules
 
 returns : tie.Need-returns
-returns c =
-    merged _ c.before.before.before.before.before.before.before.before.before.before.requires.0 _ c.before.before.before.before.before.before.before.before.before.before.requires.1 _ c.before.before.before.before.before.record_of.ensures _ _ c.before.before.before.before.before.before.before.from-end.ensures c.before.before.before.before.before.before.from-end2.ensures c.before.before.before.before.parts-of.result
-    c.before.before.before.before.parts-of.ensures.1 c.before.before.before.before.parts-of.ensures.2 _ _ _ c.before.before.merge.ensures
+returns c = search merged
 
 pub merge-name-spec : {M : Type 1} → statement M
 merge-name-spec =

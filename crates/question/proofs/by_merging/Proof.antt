@@ -22,8 +22,8 @@ loop-holds c = (search rules, search left_begin)
 name-at-requires : tie.Need-name-at-requires invariant-loop decreases-loop
 name-at-requires c κs = (search order_there, search position_below)
 
-merge-name-requires : tie.Need-merge-name-requires invariant-loop decreases-loop
-merge-name-requires c κs = (search rules, search name_below, search left_candidates, search left_rise)
+merge-rising-requires : tie.Need-merge-rising-requires invariant-loop decreases-loop
+merge-rising-requires c κs = (search rules, search name_below, search left_candidates, search left_rise)
 
 add_r : tie.Need-overflow-add-r invariant-loop decreases-loop
 add_r c = search rules
@@ -49,7 +49,7 @@ by-merging-spec =
     start-requires
     loop-holds
     name-at-requires
-    merge-name-requires
+    merge-rising-requires
     add_r
     loop-less
     loop-again
