@@ -81,13 +81,13 @@ module _ (bs : List ℕ) (ok : (look bs).number ≡ 0) where
         -- or are merged with it
         pub merged : (xs : List ℕ) (n : ℕ) (s : List ℕ) → Front (plainly (listed p.u p.block r) xs) n s
             → Front (plainly (listed (u_of bs) (block_length bs) (record_of bs name)) xs) n s
-        merged xs n s f = rw (pu, pB, isU, isB, isR) at f
+        merged xs n s f = rw (pu, pB, isU, is_b, isR) at f
 
-        -- or, where they rise,
+        -- they rise up to the u of the parts as they do up to that of the index
         pub rising : (xs : List ℕ) → Ascends (u_of bs) 0 xs → Ascends p.u 0 xs
         rising xs a = rw (pu, isU) a
 
-        -- and those that it holds are kept
+        -- or, where they rise, those that it holds are kept
         pub kept_of_name : (xs : List ℕ) (n : ℕ) (s : List ℕ) → Front (keep (λ x. has x (contents p.u p.block r)) xs) n s
             → Front (keep (λ x. has x (contents (u_of bs) (block_length bs) (record_of bs name))) xs) n s
         kept_of_name xs n s f = rw (pu, pB, isU, is_b, isR) at f
