@@ -1,0 +1,5 @@
+use Rattle.slots_c.proofs.Fields.{ask-handed}
+use Rattle.slots_c.proofs.slots_ask.Goals as goal
+
+pub returns : goal.returns
+returns c = ask-handed _ _ _ _ _ _ _ _ c.ask-answer.ensures _ _ _ _ c.put_three.ensures c.put.ensures c.put-2.ensures c.put_places.ensures c.put_places-2.ensures
