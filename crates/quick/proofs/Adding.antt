@@ -1,15 +1,15 @@
 -- Bytes side by side, added up. A number that holds them in lanes of 16 bits is their sum and a multiple of 65535; in lanes of 8 bits, a multiple of 255.
-use Prim.Native.Nat.{ℕ, zero, suc, ◌+◌, ◌-◌, ◌*◌, ◌/◌, ◌%◌, ◌≤◌, ◌<◌}
-use mathlib.Core.Path.{◌≡◌, refl, sym, ap, ◌∙◌}
-use mathlib.Core.List.{List, [], ◌∷◌, ◌++◌}
+use Prim.Native.Nat.{ℕ, zero, suc, ◌+◌, ◌*◌, ◌/◌, ◌≤◌, ◌<◌}
+use mathlib.Core.Path.{◌≡◌, refl, ap, ◌∙◌}
+use mathlib.Core.List.{List, [], ◌∷◌}
 use native.Mathlib.Omega.{arith}
-use lib.Bits.{bit_and, bit_or, and_block, and_mask, and_zero_l, and_le_l, and_le_r, or_add_and}
+use lib.Bits.{bit_and, and_block, and_mask, and_zero_l}
 use lib.ListN.{length}
-use Rattle.paper.specs.Lists.{last_of, total}
+use Rattle.paper.specs.Lists.{total}
 use Rattle.laws.proofs.Parts.{AllBytes, all_tail, all_drop}
-use Rattle.quick.specs.Sums.{digits, led_to, seconds, leads, Pairs}
-use Rattle.quick.specs.Words.{wrong_of, led_of, in_pairs, on_of, of_low, of_top, of_even}
-use Rattle.quick.proofs.Lanes.{spelled, filled, lag, lows, flags, leds, and_lows, and_tops, and_leds, and_pairs}
+use Rattle.quick.specs.Sums.{digits, seconds, leads}
+use Rattle.quick.specs.Words.{in_pairs, of_even}
+use Rattle.quick.proofs.Lanes.{spelled, lows, flags, leds}
 
 -- every second byte, in lanes of 16 bits
 unfoldable evens : List ℕ → ℕ

@@ -1,15 +1,15 @@
 -- Bytes side by side in one number, the first lowest: what the bit operations do to each of them. A number may hold fewer bytes than the mask does.
-use Prim.Native.Nat.{ℕ, zero, suc, ◌+◌, ◌-◌, ◌*◌, ◌/◌, ◌%◌, ◌≤◌, ◌<◌}
+use Prim.Native.Nat.{ℕ, zero, suc, ◌+◌, ◌*◌, ◌/◌, ◌%◌, ◌≤◌, ◌<◌}
 use mathlib.Core.Path.{◌≡◌, refl, sym, ap, ◌∙◌}
 use mathlib.Core.List.{List, [], ◌∷◌, ◌++◌}
 use native.Mathlib.Decide.{dec_lt}
 use native.Mathlib.Omega.{arith}
-use lib.Bits.{bit_and, bit_or, and_block, and_mask, and_high, and_zero_l, and_zero_r, and_comm, and_le_l, and_le_r, or_add_and}
+use lib.Bits.{bit_and, and_block, and_mask, and_high, and_zero_l, and_zero_r, and_comm, and_le_r}
 use lib.ListN.{length}
-use Rattle.paper.specs.Lists.{last_of, total}
+use Rattle.paper.specs.Lists.{last_of}
 use Rattle.laws.proofs.Parts.{AllBytes, all_tail}
-use Rattle.quick.specs.Sums.{digits, led_to, seconds, leads, Pairs}
-use Rattle.quick.specs.Sums.Pairs.{none, fresh, second}
+use Rattle.quick.specs.Sums.{led_to, Pairs}
+use Rattle.quick.specs.Sums.Pairs.{fresh, second}
 use Rattle.quick.proofs.Accepting.{led_none, led_some}
 
 -- the number that bytes spell

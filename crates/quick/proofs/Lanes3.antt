@@ -1,19 +1,19 @@
 -- Lanes with two bytes before each: as `Lanes`.
-use Prim.Native.Nat.{ℕ, zero, suc, ◌+◌, ◌-◌, ◌*◌, ◌/◌, ◌%◌, ◌≤◌, ◌<◌}
+use Prim.Native.Nat.{ℕ, zero, suc, ◌+◌, ◌*◌, ◌/◌, ◌%◌, ◌≤◌, ◌<◌}
 use mathlib.Core.Path.{◌≡◌, refl, sym, ap, ◌∙◌}
 use mathlib.Core.List.{List, [], ◌∷◌, ◌++◌}
 use native.Mathlib.Decide.{dec_lt, ℕ_discrete}
 use native.Mathlib.Omega.{arith}
-use lib.Bits.{bit_and, bit_or, or_block, or_lt, or_zero_r, and_zero_r, and_comm, and_le_r}
+use lib.Bits.{bit_and, bit_or, or_block, or_lt, and_zero_r, and_comm, and_le_r}
 use lib.ListN.{length}
 use borrow.Author.Tests.{lt-ltb, le-ltb}
 use lib.Dec.{ltb}
 use Rattle.paper.specs.Lists.{last_of, pick}
 use Rattle.laws.proofs.Parts.{AllBytes, all_tail}
-use Rattle.quick.specs.Sums.{led_to, third_of, Threes}
-use Rattle.quick.specs.Sums.Threes.{none, fresh, second, third}
-use Rattle.quick.proofs.Accepting.{led_none, led_some, third_none, third_some}
-use Rattle.quick.proofs.Lanes.{spelled, filled, lag, lows, flags, and_8, low_7, top_1, led_lane, not_on}
+use Rattle.quick.specs.Sums.{third_of, Threes}
+use Rattle.quick.specs.Sums.Threes.{fresh, second, third}
+use Rattle.quick.proofs.Accepting.{third_none, third_some}
+use Rattle.quick.proofs.Lanes.{spelled, filled, lag, lows, flags, and_8, top_1, led_lane, not_on}
 
 -- whether both bytes before a byte lead on
 unfoldable pub on2 : ℕ → ℕ → ℕ

@@ -4,16 +4,15 @@ use Prim.Native.Nat.{ℕ, zero, suc, ◌+◌, ◌-◌, ◌*◌, ◌/◌, ◌%◌
 use mathlib.Core.Path.{◌≡◌, refl, sym, ap, ◌∙◌}
 use mathlib.Core.List.{List, [], ◌∷◌, ◌++◌}
 use native.Mathlib.Nat.{div-div-eq-div-mul, zero-div, add-zero}
-use native.Mathlib.Numerals.{add-one}
 use native.Mathlib.Omega.{arith}
 use lib.Bits.{bit_and, bit_or, and_le_r}
 use lib.ListN.{length, take, drop, length-take, length-drop, take-append-drop}
 use lib.Pow.{pow-add}
-use lib.Seq.{drop-drop, take_all, take-nil}
+use lib.Seq.{drop-drop, take-nil}
 use Rattle.paper.specs.Bytes.{byte_at, u32_at}
 use Rattle.paper.specs.Lists.{last_of}
 use Rattle.laws.proofs.Parts.{AllBytes, all_tail, all_drop, all_take, front, nothing}
-use Rattle.quick.specs.Sums.{digits, led_to, seconds, leads, Pairs, Told, Flat}
+use Rattle.quick.specs.Sums.{digits, seconds, leads, Told, Flat}
 use Rattle.quick.specs.Sums.Pairs.{none}
 use Rattle.quick.specs.Words.{wrong_of, led_of, in_pairs, on_of, of_low, of_top, of_even}
 use Rattle.quick.proofs.Lanes.{spelled, lag}

@@ -1,5 +1,5 @@
 -- A glance at codes of up to three bytes by position: as `Places`.
-use Prim.Native.Nat.{ℕ, zero, suc, ◌+◌, ◌-◌, ◌*◌, ◌/◌, ◌%◌, ◌^◌, ◌≤◌, ◌<◌}
+use Prim.Native.Nat.{ℕ, ◌+◌, ◌-◌, ◌*◌, ◌/◌, ◌%◌, ◌^◌, ◌≤◌, ◌<◌}
 use mathlib.Core.Path.{◌≡◌, refl, sym, ap, ◌∙◌}
 use mathlib.Core.List.{List, [], ◌∷◌, ◌++◌}
 use native.Mathlib.Nat.{zero-add}
@@ -8,11 +8,10 @@ use lib.Bits.{bit_and, bit_or}
 use lib.ListN.{length, take, drop, length-take, take-append-drop}
 use lib.Seq.{drop-drop}
 use Rattle.paper.specs.Bytes.{byte_at}
-use Rattle.paper.specs.Lists.{last_of}
 use Rattle.laws.proofs.Parts.{AllBytes, all_drop, all_take, nothing}
-use Rattle.quick.specs.Sums.{digits, seconds, leads, thirds, Threes, Told3}
+use Rattle.quick.specs.Sums.{thirds, Told3}
 use Rattle.quick.specs.Sums.Threes.{none}
-use Rattle.quick.specs.Words.{wrong3_of, far_of, led_of, in_pairs, on_of, of_low, of_top}
+use Rattle.quick.specs.Words.{wrong3_of, far_of, led_of, in_pairs, on_of, of_low}
 use Rattle.quick.proofs.Accepting.{leads_few}
 use Rattle.quick.proofs.Lanes.{spelled, lag}
 use Rattle.quick.proofs.Steps3.{Seen3, seen3_more, seen3_none, third_small}

@@ -1,20 +1,18 @@
 -- A glance, eight bytes at a time: what is seen of the bytes before, with what is left, is what there is to be seen of all. Then the same by position.
-use Prim.Native.Nat.{ℕ, zero, suc, ◌+◌, ◌-◌, ◌*◌, ◌/◌, ◌%◌, ◌^◌, ◌≤◌, ◌<◌}
-use mathlib.Core.Path.{◌≡◌, refl, sym, ap, ◌∙◌}
+use Prim.Native.Nat.{ℕ, zero, suc, ◌+◌, ◌-◌, ◌*◌, ◌/◌, ◌%◌, ◌≤◌, ◌<◌}
+use mathlib.Core.Path.{◌≡◌, refl, ap}
 use mathlib.Core.List.{List, [], ◌∷◌, ◌++◌}
-use native.Mathlib.Numerals.{add-one}
 use native.Mathlib.Nat.{mul-add}
 use native.Mathlib.Decide.{dec_lt}
 use native.Mathlib.Omega.{arith}
 use lib.Bits.{bit_and, bit_or, and_le_l, and_le_r, or_add_and}
-use lib.ListN.{length, take, drop, length-take, length-drop, take-append-drop}
-use lib.Seq.{drop-drop}
-use Rattle.paper.specs.Bytes.{byte_at, u32_at}
-use Rattle.paper.specs.Lists.{last_of, total}
-use Rattle.laws.proofs.Parts.{AllBytes, all_tail, all_drop, all_take, front, nothing}
+use lib.ListN.{length, drop}
+use Rattle.paper.specs.Bytes.{byte_at}
+use Rattle.paper.specs.Lists.{last_of}
+use Rattle.laws.proofs.Parts.{AllBytes, all_tail}
 use Rattle.quick.specs.Sums.{digits, led_to, seconds, leads, Pairs}
-use Rattle.quick.specs.Sums.Pairs.{none, fresh, second}
-use Rattle.quick.specs.Words.{wrong_of, led_of, in_pairs, on_of, of_low, of_top, of_even}
+use Rattle.quick.specs.Sums.Pairs.{fresh}
+use Rattle.quick.specs.Words.{wrong_of, led_of, in_pairs, on_of, of_low, of_top}
 use Rattle.quick.proofs.Accepting.{led_none, led_some}
 use Rattle.quick.proofs.Lanes.{spelled, filled, lag, lows, flags, leds, and_lows, and_tops, and_leds, and_pairs}
 use Rattle.quick.proofs.Adding.{Over, added, counted, total_lows, total_flags, total_leds}

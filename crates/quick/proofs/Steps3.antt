@@ -1,17 +1,17 @@
 -- A glance at codes of up to three bytes, eight bytes at a time: as `Steps`.
-use Prim.Native.Nat.{ℕ, zero, suc, ◌+◌, ◌-◌, ◌*◌, ◌/◌, ◌%◌, ◌≤◌, ◌<◌}
-use mathlib.Core.Path.{◌≡◌, refl, sym, ap, ◌∙◌}
+use Prim.Native.Nat.{ℕ, zero, suc, ◌+◌, ◌-◌, ◌*◌, ◌/◌, ◌≤◌, ◌<◌}
+use mathlib.Core.Path.{◌≡◌, refl, ap}
 use mathlib.Core.List.{List, [], ◌∷◌, ◌++◌}
 use native.Mathlib.Decide.{dec_lt}
 use native.Mathlib.Omega.{arith}
 use lib.Bits.{bit_and, bit_or}
 use lib.ListN.{length}
 use Rattle.paper.specs.Lists.{last_of, total}
-use Rattle.laws.proofs.Parts.{AllBytes, all_tail}
-use Rattle.quick.specs.Sums.{digits, led_to, seconds, leads, third_of, thirds, Threes}
+use Rattle.laws.proofs.Parts.{AllBytes}
+use Rattle.quick.specs.Sums.{digits, seconds, leads, third_of, thirds, Threes}
 use Rattle.quick.specs.Words.{wrong3_of, far_of, led_of, in_pairs, on_of, of_low, of_top}
 use Rattle.quick.proofs.Accepting.{third_none, third_some}
-use Rattle.quick.proofs.Lanes.{spelled, filled, lag, lows, flags}
+use Rattle.quick.proofs.Lanes.{spelled, lag, lows, flags}
 use Rattle.quick.proofs.Lanes3.{flags2, fars, and_both, and_fars, and_threes}
 use Rattle.quick.proofs.Adding.{Over, added}
 use Rattle.quick.proofs.Steps.{low_is, lag_is, of_low_is, led_small, or_none, on_adds, low_adds, led_adds, digits_join, leads_join, seconds_join, over_more}

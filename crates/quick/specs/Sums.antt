@@ -1,5 +1,5 @@
 -- What a glance at the bytes of a block counts, byte by byte, each beside the byte before it; and when codes of one and two bytes are all that they are.
-use Rattle.std.specs.Prelude.{ℕ, zero, suc, ◌+◌, ◌-◌, ◌*◌, ◌/◌, ◌%◌, ◌<◌, ◌≡◌, List, [], ◌∷◌, ltb, length}
+use Rattle.std.specs.Prelude.{ℕ, ◌+◌, ◌-◌, ◌/◌, ◌%◌, ◌<◌, ◌≡◌, List, [], ◌∷◌, ltb, length}
 use Rattle.paper.specs.Bytes.{byte_at}
 use Rattle.paper.specs.Lists.{pick}
 
