@@ -69,10 +69,15 @@ fn print_answer(rt: &impl Print, answer: &Answer) -> io::Result<()> {
     )
 }
 
+// Prints a slot on a line.
+fn print_slot(rt: &impl Print, slot: u32) -> io::Result<()> {
+    println!(rt; "{slot}")
+}
+
 // Prints slots, each on a line.
 fn print_slots(rt: &impl Print, slots: &[u32]) -> io::Result<()> {
     for slot in slots {
-        println!(rt; "{slot}")?;
+        print_slot(rt, *slot)?;
     }
     Ok(())
 }
@@ -91,14 +96,14 @@ fn reply(rt: &impl Print, index: &[u8], numbers: Numbers) -> io::Result<()>
 }
 
 // Takes the question from standard input. A text that fills its room is over 256 bytes, and `read_line` finds no numbers in it.
-fn answer_input(rt: HostRuntime, index: &[u8]) -> io::Result<()> {
+fn answer_input(rt: &(impl Print + Input), index: &[u8]) -> io::Result<()> {
     let mut room = text_room();
-    let many = read_all(&mut rt.stdin(), &mut room);
+    let many = read_all(&mut rt.reader(), &mut room);
     let numbers = read_line(&room[..many]);
     if numbers.many < 1 {
         return println!(rt; "usage");
     }
-    reply(&rt, index, numbers)
+    reply(rt, index, numbers)
 }
 
 // The file is judged before anything of standard input is read.
@@ -108,5 +113,5 @@ fn main(rt: HostRuntime) -> io::Result<()> {
     if 65536 < many {
         return println!(rt; "file");
     }
-    answer_input(rt, &room[..many])
+    answer_input(&rt, &room[..many])
 }

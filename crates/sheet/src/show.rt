@@ -61,13 +61,18 @@ pub fn places(rt: &impl Print, all: [u64; 16]) -> io::Result<()> {
     Ok(())
 }
 
+// A byte in two digits.
+fn byte(rt: &impl Print, b: u8) -> io::Result<()> {
+    print!(rt; "{b:02x}")
+}
+
 // The first `count` bytes, two digits each with nothing between them.
 fn digits(rt: &impl Print, all: &[u8], count: usize) -> io::Result<()> {
     if all.len() < count {
         return Ok(());
     }
-    for byte in &all[..count] {
-        print!(rt; "{byte:02x}")?;
+    for b in &all[..count] {
+        byte(rt, *b)?;
     }
     Ok(())
 }
