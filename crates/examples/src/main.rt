@@ -10,16 +10,17 @@ mod writing;
 
 use judged::{looking, records};
 use queries::{asking, lists, nexts};
+use std::io;
 
-fn main() {
-    looking::run();
-    asking::run();
-    lists::run();
-    nexts::run();
-    searching::run();
-    packed::run();
-    records::run();
-    writing::run();
-    closed::run();
-    bounds::run();
+fn main(rt: HostRuntime) -> io::Result<()> {
+    looking::run(&rt)?;
+    asking::run(&rt)?;
+    lists::run(&rt)?;
+    nexts::run(&rt)?;
+    searching::run(&rt)?;
+    packed::run(&rt)?;
+    records::run(&rt)?;
+    writing::run(&rt)?;
+    closed::run(&rt)?;
+    bounds::run(&rt)
 }

@@ -2,93 +2,120 @@
 use sheet::make::PAPER;
 use sheet::show::{end, label, places, refusal, slots, value};
 use slots::ask;
+use std::io;
 
 // The line of a question whose answer goes to `room`.
-pub fn ask_in(text: &[u8], index: &[u8], way: u32, names: &[u32], room: &mut [u32]) {
+pub fn ask_in(
+    rt: &impl Print,
+    text: &[u8],
+    index: &[u8],
+    way: u32,
+    names: &[u32],
+    room: &mut [u32],
+) -> io::Result<()> {
     let told = ask(index, way, names, room);
-    label(text);
-    refusal(told.number, told.place);
-    value(told.count as u64);
-    value(told.looks);
-    value(told.codes);
-    slots(room, told.count as usize);
-    end();
+    label(rt, text)?;
+    refusal(rt, told.number, told.place)?;
+    value(rt, told.count as u64)?;
+    value(rt, told.looks)?;
+    value(rt, told.codes)?;
+    slots(rt, room, told.count as usize)?;
+    end(rt)
 }
 
 // The line of a question with room for 64 slots.
-pub fn ask_64(text: &[u8], index: &[u8], way: u32, names: &[u32]) {
+pub fn ask_64(
+    rt: &impl Print,
+    text: &[u8],
+    index: &[u8],
+    way: u32,
+    names: &[u32],
+) -> io::Result<()> {
     let mut room = [0u32; 64];
-    ask_in(text, index, way, names, &mut room);
+    ask_in(rt, text, index, way, names, &mut room)
 }
 
 // The line of what each name of a question costs: all places of looks, then all of codes.
-fn costs_in(text: &[u8], index: &[u8], way: u32, names: &[u32], room: &mut [u32]) {
+fn costs_in(
+    rt: &impl Print,
+    text: &[u8],
+    index: &[u8],
+    way: u32,
+    names: &[u32],
+    room: &mut [u32],
+) -> io::Result<()> {
     let told = ask(index, way, names, room);
-    label(text);
-    refusal(told.number, told.place);
+    label(rt, text)?;
+    refusal(rt, told.number, told.place)?;
     let looks = told.looks16;
-    places(looks);
+    places(rt, looks)?;
     let codes = told.codes16;
-    places(codes);
-    end();
+    places(rt, codes)?;
+    end(rt)
 }
 
 // The same with room for 64 slots.
-pub fn costs_64(text: &[u8], index: &[u8], way: u32, names: &[u32]) {
+pub fn costs_64(
+    rt: &impl Print,
+    text: &[u8],
+    index: &[u8],
+    way: u32,
+    names: &[u32],
+) -> io::Result<()> {
     let mut room = [0u32; 64];
-    costs_in(text, index, way, names, &mut room);
+    costs_in(rt, text, index, way, names, &mut room)
 }
 
 // How many names there are, and what they may be.
-fn names() {
+fn names(rt: &impl Print) -> io::Result<()> {
     let p = PAPER;
     let both = [0u32, 1, 0, 1, 0, 1, 0, 1, 0, 1, 0, 1, 0, 1, 0, 1, 0];
-    ask_64(b"16 names", &p, 1, &both[..16]);
-    ask_64(b"17 names", &p, 1, &both);
-    ask_64(b"17 names, way 2", &p, 2, &both);
-    ask_64(b"way 2", &p, 2, &both[..2]);
-    ask_64(b"no names, way 0", &p, 0, &both[..0]);
-    ask_64(b"names 0 2 1 2", &p, 1, &[0, 2, 1, 2]);
+    ask_64(rt, b"16 names", &p, 1, &both[..16])?;
+    ask_64(rt, b"17 names", &p, 1, &both)?;
+    ask_64(rt, b"17 names, way 2", &p, 2, &both)?;
+    ask_64(rt, b"way 2", &p, 2, &both[..2])?;
+    ask_64(rt, b"no names, way 0", &p, 0, &both[..0])?;
+    ask_64(rt, b"names 0 2 1 2", &p, 1, &[0, 2, 1, 2])
 }
 
 // Room, and lists named twice.
-fn paper() {
+fn paper(rt: &impl Print) -> io::Result<()> {
     let p = PAPER;
     let mut six = [0u32; 6];
     let mut none = [0u32; 0];
-    ask_in(b"room 6, way 0", &p, 0, &[0, 1], &mut six);
-    ask_in(b"room 0, name 1", &p, 1, &[1], &mut none);
-    ask_64(b"names 0 1, way 0", &p, 0, &[0, 1]);
-    ask_64(b"names 1 0 0", &p, 1, &[1, 0, 0]);
-    ask_64(b"names 1 1", &p, 1, &[1, 1]);
+    ask_in(rt, b"room 6, way 0", &p, 0, &[0, 1], &mut six)?;
+    ask_in(rt, b"room 0, name 1", &p, 1, &[1], &mut none)?;
+    ask_64(rt, b"names 0 1, way 0", &p, 0, &[0, 1])?;
+    ask_64(rt, b"names 1 0 0", &p, 1, &[1, 0, 0])?;
+    ask_64(rt, b"names 1 1", &p, 1, &[1, 1])
 }
 
 // Which list cost what: by position, whatever the order of the lists is.
-fn positions() {
+fn positions(rt: &impl Print) -> io::Result<()> {
     let p = PAPER;
     let both = [0u32, 1, 0, 1, 0, 1, 0, 1, 0, 1, 0, 1, 0, 1, 0, 1, 0];
-    costs_64(b"costs 0 1", &p, 1, &[0, 1]);
-    costs_64(b"costs 1 0", &p, 1, &[1, 0]);
-    costs_64(b"costs 1 0 0", &p, 1, &[1, 0, 0]);
-    costs_64(b"costs 1 1", &p, 1, &[1, 1]);
-    costs_64(b"costs 0 1, way 0", &p, 0, &[0, 1]);
-    costs_64(b"costs 16 names", &p, 1, &both[..16]);
-    costs_64(b"costs 17 names", &p, 1, &both);
+    costs_64(rt, b"costs 0 1", &p, 1, &[0, 1])?;
+    costs_64(rt, b"costs 1 0", &p, 1, &[1, 0])?;
+    costs_64(rt, b"costs 1 0 0", &p, 1, &[1, 0, 0])?;
+    costs_64(rt, b"costs 1 1", &p, 1, &[1, 1])?;
+    costs_64(rt, b"costs 0 1, way 0", &p, 0, &[0, 1])?;
+    costs_64(rt, b"costs 16 names", &p, 1, &both[..16])?;
+    costs_64(rt, b"costs 17 names", &p, 1, &both)
 }
 
 // A refusal costs nothing: too little room, and damage to list 0's last code.
-fn free() {
+fn free(rt: &impl Print) -> io::Result<()> {
     let mut p = PAPER;
     let mut six = [0u32; 6];
-    costs_in(b"costs room 6", &p, 1, &[0, 1], &mut six);
+    costs_in(rt, b"costs room 6", &p, 1, &[0, 1], &mut six)?;
     p[54] = 0x81;
-    costs_64(b"costs byte 54 is 81", &p, 1, &[0, 1]);
+    costs_64(rt, b"costs byte 54 is 81", &p, 1, &[0, 1])
 }
 
 // All lines of this part, in their order.
-pub fn run() {
-    names();
-    paper();
-    positions();
-    free();
+pub fn run(rt: &impl Print) -> io::Result<()> {
+    names(rt)?;
+    paper(rt)?;
+    positions(rt)?;
+    free(rt)
 }

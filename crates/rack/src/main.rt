@@ -5,10 +5,12 @@
 
 ghost use Rattle.std.specs.Prelude.{◌≡◌, ◌≤◌, length};
 
-use libc::{STDIN_FILENO, STDOUT_FILENO};
 use line::{Numbers, read_line};
 use paper::Answer;
 use slots::ask;
+use std::io::Read;
+use std::rt::Files;
+use std::{fs, io};
 
 // Room for the longest file and one byte more: a file that fills it is too long.
 fn file_room() -> [u8; 65537]
@@ -33,16 +35,14 @@ fn slot_room() -> [u32; 16384]
 
 // Reads to the end, piece by piece, and tells how many bytes came. It stops where the room is full. A read that fails is told as a full room,
 // since rooms have one byte more than is allowed: both come to the same answer.
-fn read_all(fd: i32, room: &mut [u8]) -> usize
+fn read_all(from: &mut impl Read, room: &mut [u8]) -> usize
     ensures { result ≤ length room.new }
 {
     let mut done: usize = 0;
     while done < room.len() {
-        let got = libc::read(fd, &mut room[done..]);
-        if got < 0 {
+        let Ok(more) = from.read(&mut room[done..]) else {
             return room.len();
-        }
-        let more = io::count(got, &room[done..]);
+        };
         if more == 0 {
             return done;
         }
@@ -52,78 +52,66 @@ fn read_all(fd: i32, room: &mut [u8]) -> usize
 }
 
 // Reads the file. One that cannot be opened is told as a full room, too.
-fn read_file(room: &mut [u8]) -> usize
+fn read_file(rt: &impl Files, room: &mut [u8]) -> usize
     ensures { result ≤ length room.new }
 {
-    let fd = os::open_read(b"rack.idx");
-    if fd < 0 {
+    let Ok(mut file) = fs::open(rt, "rack.idx") else {
         return room.len();
-    }
-    let many = read_all(fd, room);
-    libc::close(fd);
-    many
-}
-
-// Prints a number, and what stands behind it.
-fn print_number(number: u64, behind: &[u8]) {
-    io::print_decimal(STDOUT_FILENO, number);
-    io::write_all(STDOUT_FILENO, behind);
+    };
+    read_all(&mut file, room)
 }
 
 // Prints the four numbers of an answer on one line.
-fn print_answer(answer: Answer) {
-    print_number(answer.number as u64, b" ");
-    print_number(answer.place as u64, b" ");
-    print_number(answer.looks, b" ");
-    print_number(answer.codes, b"\n");
+fn print_answer(rt: &impl Print, answer: &Answer) -> io::Result<()> {
+    println!(rt;
+        "{} {} {} {}",
+        answer.number, answer.place, answer.looks, answer.codes
+    )
 }
 
 // Prints a slot on a line.
-fn print_slot(slot: u32) {
-    print_number(slot as u64, b"\n");
+fn print_slot(rt: &impl Print, slot: u32) -> io::Result<()> {
+    println!(rt; "{slot}")
 }
 
 // Prints slots, each on a line.
-fn print_slots(slots: &[u32]) {
-    let mut i: usize = 0;
-    while i < slots.len() {
-        print_slot(slots[i]);
-        i = i + 1;
+fn print_slots(rt: &impl Print, slots: &[u32]) -> io::Result<()> {
+    for slot in slots {
+        print_slot(rt, *slot)?;
     }
+    Ok(())
 }
 
 // Asks the index, and prints the answer. A refusal counts no slots, and so prints its first line only.
-fn reply(index: &[u8], numbers: Numbers)
+fn reply(rt: &impl Print, index: &[u8], numbers: Numbers) -> io::Result<()>
     requires { (1 ≤ numbers.many) × (numbers.many ≤ length numbers.values) }
 {
     let many = numbers.many;
     let values = numbers.values;
     let mut slots = slot_room();
     let answer = ask(index, values[0], &values[1..many], &mut slots);
-    print_answer(answer);
+    print_answer(rt, &answer)?;
     let count = answer.count as usize;
-    print_slots(&slots[..count]);
+    print_slots(rt, &slots[..count])
 }
 
 // Takes the question from standard input. A text that fills its room is over 256 bytes, and `read_line` finds no numbers in it.
-fn answer_input(index: &[u8]) {
+fn answer_input(rt: &(impl Print + Input), index: &[u8]) -> io::Result<()> {
     let mut room = text_room();
-    let many = read_all(STDIN_FILENO, &mut room);
+    let many = read_all(&mut rt.reader(), &mut room);
     let numbers = read_line(&room[..many]);
     if numbers.many < 1 {
-        io::write_all(STDOUT_FILENO, b"usage\n");
-        return;
+        return println!(rt; "usage");
     }
-    reply(index, numbers);
+    reply(rt, index, numbers)
 }
 
 // The file is judged before anything of standard input is read.
-fn main() {
+fn main(rt: HostRuntime) -> io::Result<()> {
     let mut room = file_room();
-    let many = read_file(&mut room);
+    let many = read_file(&rt, &mut room);
     if 65536 < many {
-        io::write_all(STDOUT_FILENO, b"file\n");
-        return;
+        return println!(rt; "file");
     }
-    answer_input(&room[..many]);
+    answer_input(&rt, &room[..many])
 }

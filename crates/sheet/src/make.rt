@@ -49,10 +49,8 @@ pub fn put_word(room: &mut [u8], at: usize, word: u32) -> usize {
 // Puts numbers one after the other, and tells where they end.
 pub fn put_words(room: &mut [u8], at: usize, words: &[u32]) -> usize {
     let mut end = at;
-    let mut i = 0;
-    while i < words.len() {
-        end = put_word(room, end, words[i]);
-        i = i + 1;
+    for word in words {
+        end = put_word(room, end, *word);
     }
     end
 }
@@ -68,10 +66,8 @@ fn put_byte(room: &mut [u8], at: usize, byte: u8) -> usize {
 // Puts bytes one after the other, and tells where they end.
 pub fn put_bytes(room: &mut [u8], at: usize, bytes: &[u8]) -> usize {
     let mut end = at;
-    let mut i = 0;
-    while i < bytes.len() {
-        end = put_byte(room, end, bytes[i]);
-        i = i + 1;
+    for byte in bytes {
+        end = put_byte(room, end, *byte);
     }
     end
 }
@@ -86,12 +82,10 @@ pub fn put_bits(room: &mut [u8], start: u32, at: u32, bits: u8) {
 
 // Fills a slice with the multiples of `step`, from the first on.
 pub fn fill(slots: &mut [u32], step: u32) {
-    let mut slot = 0;
-    let mut i = 0;
-    while i < slots.len() {
-        slot = wrapping_add_u32(slot, step);
-        slots[i] = slot;
-        i = i + 1;
+    let mut multiple = 0;
+    for slot in slots.iter_mut() {
+        multiple = wrapping_add_u32(multiple, step);
+        *slot = multiple;
     }
 }
 

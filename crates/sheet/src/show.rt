@@ -1,98 +1,87 @@
-// A line of the output: the label and a colon, then each value behind one space.
-use io::{print_decimal, print_hex, write_all};
-use libc::STDOUT_FILENO;
+// A line of the output: the label and a colon, then each value behind one space. What cannot be written is the error of the call.
 use paper::{Verdict, Written};
+use std::io;
 
 // Begins a line.
-pub fn label(text: &[u8]) {
-    write_all(STDOUT_FILENO, text);
-    write_all(STDOUT_FILENO, b":");
+pub fn label(rt: &impl Print, text: &[u8]) -> io::Result<()> {
+    rt.write_all(text)?;
+    print!(rt; ":")
 }
 
 // A value of the line, in decimal.
-pub fn value(n: u64) {
-    write_all(STDOUT_FILENO, b" ");
-    print_decimal(STDOUT_FILENO, n);
+pub fn value(rt: &impl Print, n: u64) -> io::Result<()> {
+    print!(rt; " {n}")
 }
 
 // Ends a line.
-pub fn end() {
-    write_all(STDOUT_FILENO, b"\n");
+pub fn end(rt: &impl Print) -> io::Result<()> {
+    println!(rt; "")
 }
 
 // The two values that every answer begins with.
-pub fn refusal(number: u32, place: u32) {
-    value(number as u64);
-    value(place as u64);
+pub fn refusal(rt: &impl Print, number: u32, place: u32) -> io::Result<()> {
+    value(rt, number as u64)?;
+    value(rt, place as u64)
 }
 
 // A whole line of what looking found.
-pub fn verdict(text: &[u8], seen: Verdict) {
-    label(text);
-    refusal(seen.number, seen.place);
-    end();
+pub fn verdict(rt: &impl Print, text: &[u8], seen: Verdict) -> io::Result<()> {
+    label(rt, text)?;
+    refusal(rt, seen.number, seen.place)?;
+    end(rt)
 }
 
 // A yes-or-no, 1 or 0.
-pub fn flag(yes: bool) {
-    if yes {
-        value(1);
-    } else {
-        value(0);
-    }
+pub fn flag(rt: &impl Print, yes: bool) -> io::Result<()> {
+    if yes { value(rt, 1) } else { value(rt, 0) }
 }
 
 // The values of a writing or a closing.
-pub fn written(made: Written) {
-    refusal(made.number, made.place);
-    value(made.length as u64);
-}
-
-fn wide(slot: u32) -> u64 {
-    slot as u64
+pub fn written(rt: &impl Print, made: Written) -> io::Result<()> {
+    refusal(rt, made.number, made.place)?;
+    value(rt, made.length as u64)
 }
 
 // The first `count` slots, each a value.
-pub fn slots(all: &[u32], count: usize) {
+pub fn slots(rt: &impl Print, all: &[u32], count: usize) -> io::Result<()> {
     if all.len() < count {
-        return;
+        return Ok(());
     }
-    let mut i = 0;
-    while i < count {
-        value(wide(all[i]));
-        i = i + 1;
+    for slot in &all[..count] {
+        value(rt, *slot as u64)?;
     }
+    Ok(())
 }
 
 // The sixteen places of an answer, each a value.
-pub fn places(all: [u64; 16]) {
-    let mut i = 0;
-    while i < 16 {
-        value(all[i]);
-        i = i + 1;
+pub fn places(rt: &impl Print, all: [u64; 16]) -> io::Result<()> {
+    for place in &all {
+        value(rt, *place)?;
     }
+    Ok(())
 }
 
-fn byte(b: u8) {
-    print_hex(STDOUT_FILENO, b as u64, 2);
+// A byte in two digits.
+fn byte(rt: &impl Print, b: u8) -> io::Result<()> {
+    print!(rt; "{b:02x}")
 }
 
 // The first `count` bytes, two digits each with nothing between them.
-fn digits(all: &[u8], count: usize) {
+fn digits(rt: &impl Print, all: &[u8], count: usize) -> io::Result<()> {
     if all.len() < count {
-        return;
+        return Ok(());
     }
-    let mut i = 0;
-    while i < count {
-        byte(all[i]);
-        i = i + 1;
+    for b in &all[..count] {
+        byte(rt, *b)?;
     }
+    Ok(())
 }
 
 // The first `length` bytes as one word, and no word where there are none.
-pub fn bytes(all: &[u8], length: u32) {
+pub fn bytes(rt: &impl Print, all: &[u8], length: u32) -> io::Result<()> {
     if 0 < length {
-        write_all(STDOUT_FILENO, b" ");
-        digits(all, length as usize);
+        print!(rt; " ")?;
+        digits(rt, all, length as usize)?;
     }
+    Ok(())
 }
