@@ -7,7 +7,7 @@ use Rattle.paper.specs.Bytes.{u32_at, part}
 use Rattle.paper.specs.Block.{read_codes}
 use Rattle.paper.specs.Record.{tail_of}
 use Rattle.paper.specs.Held.{entry_of}
-use Rattle.paper.specs.Search.{Sought, at, saw, mid, halved, galloped, searched}
+use Rattle.paper.specs.Search.{Sought, saw, mid, halved, galloped, searched}
 use Rattle.paper.specs.Walk.{seek, seek_in}
 use Rattle.laws.proofs.Searches.{entry_at, halve_one, halve_up, halve_down, halve_few, gallop_past, gallop_fail, gallop_good}
 use Rattle.codes.specs.declared.Stopped.{Stopped}
