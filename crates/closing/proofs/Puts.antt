@@ -1,16 +1,16 @@
 -- What the writing of directory and trailer cites: runs of stores, side by side, are one.
 use Prim.Native.Nat.{ℕ, ◌+◌, ◌*◌, ◌-◌, ◌≤◌, ◌<◌}
 use mathlib.Core.Path.{◌≡◌, refl, ap, ◌∙◌}
-use mathlib.Core.List.{List, ◌++◌, map, flatten, append_assoc, append-nil}
+use mathlib.Core.List.{List, ◌++◌, map, flatten, append_assoc}
 use native.Mathlib.Omega.{arith}
 use borrow.Rule.Slice.PartMut.{put_mid}
-use lib.ListN.{length, get_or, take, drop, length-append, length-drop, drop_of_length-le}
+use lib.ListN.{length, get_or, take, drop, length-append}
 use lib.Seq.{length-take-le, drop-drop, sets, sets-eq, length-sets}
 use Rattle.paper.specs.Lists.{on_front}
 use Rattle.paper.specs.Bytes.{u32_bytes}
 use Rattle.paper.specs.Refusal.{tag, finished}
 use Rattle.paper.specs.Close.{frame_bytes}
-use Rattle.laws.proofs.Parts.{front, nothing, part_end}
+use Rattle.laws.proofs.Parts.{front, nothing}
 use Rattle.laws.proofs.Words.{length_word, length_words}
 use Rattle.laws.proofs.Stores.{Run, run_more, run_word, run_first}
 use Rattle.closing.specs.Trailer.{trailer}

@@ -1,16 +1,13 @@
 -- Block after block, and the whole list.
-use Prim.Native.Nat.{ℕ, ◌+◌, ◌*◌, ◌-◌, ◌≤◌, ◌<◌, min}
+use Prim.Native.Nat.{ℕ, ◌+◌, ◌*◌, ◌≤◌, ◌<◌}
 use mathlib.Core.Path.{◌≡◌, refl, sym, ap, ◌∙◌}
-use mathlib.Core.Bool.{Bool}
-use mathlib.Core.List.{List, [], ◌∷◌, ◌++◌, flatten, append_assoc, append-nil}
+use mathlib.Core.List.{List, [], ◌∷◌, ◌++◌, append-nil}
 use native.Mathlib.Omega.{arith}
-use lib.ListN.{length, get_or, take, drop}
+use lib.ListN.{length, get_or, take}
 use Rattle.paper.specs.Lists.{has, keep}
 use Rattle.paper.specs.Bytes.{part, u32_at}
-use Rattle.paper.specs.Tail.{end_of}
-use Rattle.paper.specs.Record.{cut_of, bits_of, bit_at, tail_of}
+use Rattle.paper.specs.Record.{bit_at}
 use Rattle.paper.specs.Held.{contents}
-use Rattle.laws.proofs.Blocks.{slots_none}
 use Rattle.laws.proofs.Lists.{has_none}
 use Rattle.laws.proofs.Parts.{part_none}
 use Rattle.meaning.proofs.Rising.{Ascends}
@@ -22,8 +19,8 @@ use Rattle.record.specs.Front.{Front}
 use Rattle.record.proofs.Opening.{slots_behind, slots_from, cut_is, bits_are, slots_end, slots_next, lies}
 use Rattle.plain.specs.Sifted.{up_to, Told}
 use Rattle.marks.specs.Marks.{Clear}
-use Rattle.marks.specs.Waiting.{whole, Waits, AtBlock, Below}
-use Rattle.marks.proofs.Waiting.{Comes, keep_same, keep_none, left_rise, both, passed, none_left, passed_over}
+use Rattle.marks.specs.Waiting.{whole, Waits, Below}
+use Rattle.marks.proofs.Waiting.{Comes, keep_same, keep_none, left_rise, both, passed_over}
 
 -- nothing is kept of the candidates left: those that stand kept are all
 module _ (slots : List ℕ) (count kept next : ℕ) (s : List ℕ) (few : kept ≤ length s) where

@@ -1,7 +1,6 @@
 -- A piece of a block: codes without a fault give slot after slot, and each is marked.
 use Prim.Native.Nat.{ℕ, ◌+◌, ◌-◌, ◌≤◌, ◌<◌}
 use mathlib.Core.Path.{◌≡◌, refl, sym, ap, ◌∙◌}
-use mathlib.Core.Bool.{Bool, true, false}
 use mathlib.Core.List.{List, ◌∷◌}
 use native.Mathlib.Decide.{dec_le, ℕ_discrete}
 use native.Mathlib.Omega.{arith}
@@ -11,7 +10,7 @@ use Rattle.paper.specs.Code.{code_of}
 use Rattle.paper.specs.Code.Code.{code}
 use Rattle.paper.specs.Block.{Block, cons, read_codes}
 use Rattle.laws.proofs.Blocks.{turn_bad, turn_above, turn_next}
-use Rattle.meaning.proofs.Rising.{stop_above, stops_at, pass_below, has_low}
+use Rattle.meaning.proofs.Rising.{stop_above, stops_at, pass_below}
 use Rattle.meaning.proofs.Blocks.{codes_rise}
 use Rattle.codes.specs.Got.{Stands}
 use Rattle.codes.proofs.Standing as standing

@@ -1,11 +1,11 @@
 -- A merge on its way through the slots behind the cut: a piece is told, slots are passed over, and the end is reached.
-use Prim.Native.Nat.{ℕ, ◌+◌, ◌≤◌, ◌<◌}
+use Prim.Native.Nat.{ℕ, ◌≤◌, ◌<◌}
 use mathlib.Core.Path.{◌≡◌, refl, sym, ap, ◌∙◌}
 use mathlib.Core.Bool.{Bool, true, false, ◌||◌}
-use mathlib.Core.List.{List, [], ◌∷◌, ◌++◌, append_assoc, append-nil}
+use mathlib.Core.List.{List, [], ◌∷◌, ◌++◌, append_assoc}
 use native.Mathlib.Decide.{dec_le, dec_lt}
 use native.Mathlib.Omega.{arith}
-use lib.ListN.{length, get_or, take, drop}
+use lib.ListN.{get_or, take, drop}
 use Rattle.paper.specs.Lists.{pick, has, keep, last_of}
 use Rattle.paper.specs.Bytes.{part}
 use Rattle.laws.proofs.Lists.{has_none, has_joined, has_front, has_behind, keep_fail}
@@ -13,7 +13,7 @@ use Rattle.laws.proofs.Parts.{part_cons, part_none}
 use Rattle.laws.proofs.Blocks.{slots_none}
 use Rattle.meaning.proofs.Rising.{Ascends, rise_lower, rise_join, rise_front, rise_back, last_most, has_low, stop_above, pass_below}
 use Rattle.meaning.proofs.Blocks.{codes_rise}
-use Rattle.plain.specs.Sifted.{Sifted, behind, up_to, Told}
+use Rattle.plain.specs.Sifted.{behind, up_to, Told}
 use Rattle.marks.specs.Marks.{marked, Clear, Reads, slots_left, Piece}
 use Rattle.marks.specs.Waiting.{whole, Waits}
 use Rattle.plain.proofs.Steps.{up_here, up_above}

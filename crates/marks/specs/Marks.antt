@@ -1,5 +1,5 @@
 -- The table of marks: at the remainder of a slot by 16384 stands its quotient. And the pieces of a block whose slots are marked together.
-use Rattle.std.specs.Prelude.{ℕ, ◌+◌, ◌/◌, ◌%◌, ◌≤◌, ◌<◌, ◌≡◌, Bool, false, List, ◌∷◌, eqb, length, get_or, drop, set}
+use Rattle.std.specs.Prelude.{ℕ, ◌+◌, ◌/◌, ◌%◌, ◌≤◌, ◌<◌, ◌≡◌, Bool, false, List, eqb, length, get_or, drop, set}
 use Rattle.paper.specs.Lists.{has, last_of}
 use Rattle.paper.specs.Block.{read_codes}
 

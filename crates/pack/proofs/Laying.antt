@@ -4,7 +4,7 @@ use mathlib.Core.Path.{◌≡◌, refl, sym, ap, ◌∙◌}
 use mathlib.Core.List.{List, ◌++◌, append_assoc}
 use native.Mathlib.Omega.{arith}
 use lib.ListN.{length, take, drop, length-append, length-take, length-drop}
-use lib.Seq.{sets, sets-eq, length-sets, take_at, drop_at, drop-drop, length-take-le}
+use lib.Seq.{sets, sets-eq, take_at, drop_at, drop-drop, length-take-le}
 use Rattle.paper.specs.Lists.{has, on_front}
 use Rattle.paper.specs.Bytes.{u32_bytes, part, ceil_div}
 use Rattle.paper.specs.Tail.{block_count}
