@@ -1,8 +1,7 @@
 /* slots.h: an index of packed lists of slots: looked at, asked, tested, stepped through, counted, lent from, measured, written and closed.
  *
  * Link with build/libslots.a or build/libslots.so, which ./build-lib makes. Both are for Linux on x86-64; of the C library they need memset alone.
- * (On another machine build/native has the same two for trying things out.) This header is C99 and C++98, or newer. docs/FORMAT.md has the
- * format; README.md has a whole example.
+ * This header is C99 and C++98, or newer. docs/FORMAT.md has the format; README.md has a whole example.
  *
  * Every call gets an answer, whatever bytes and numbers it is given. The number of the answer is 0 where the call is accepted. Where it is not, the
  * number says why (see slots_refusal below) and the place says where: nothing else is then known, every other field of the answer is 0, and

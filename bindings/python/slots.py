@@ -26,7 +26,7 @@ What this module adds is care with what it is given, since C would take a wrong 
   resized during the call; that no other thread writes to it meanwhile is left to the caller.
 
 The library is loaded by the first call. It is sought in the folder that the environment variable SLOTS_LIB names, otherwise in the
-repository's build/ on x86-64 and build/native/ on other machines; `NoLibrary` says where it was missed.
+repository's build/ on x86-64 and build/native/ on other machines (which ./build-lib does not make); `NoLibrary` says where it was missed.
 """
 from __future__ import annotations
 

@@ -2,7 +2,7 @@
 //!
 //! SLOTS_LIB names the folder that has it. Where it is not set, that is the repository's `build` for
 //! x86-64 and `build/native` for other machines, seen from this package and not from the working
-//! folder. Every doubt about the archive ends the build here, where the message can say what to do.
+//! folder. (`./build-lib` makes the one for x86-64 alone.) Every doubt about the archive ends the build here, where the message can say what to do.
 
 use std::env::{self, VarError};
 use std::fs;
@@ -43,8 +43,8 @@ fn usual(machine: &str) -> PathBuf {
     }
 }
 
-/// Panics where there is no archive, or where it is known to be for another machine: easily so, as
-/// `./build-lib` makes two of them side by side. The linker would only speak of a wrong format.
+/// Panics where there is no archive, or where it is known to be for another machine. The linker would
+/// only speak of a wrong format.
 fn check(archive: &Path, machine: &str) {
     let bytes = fs::read(archive).unwrap_or_else(|error| {
         panic!(
@@ -57,7 +57,7 @@ fn check(archive: &Path, machine: &str) {
         if wanted != found {
             panic!(
                 "{} was made for another machine than {machine}. ./build-lib writes the one \
-                 for x86-64 to build, and the one for other machines to build/native",
+                 for x86-64 to build, and makes none for other machines",
                 archive.display()
             );
         }
