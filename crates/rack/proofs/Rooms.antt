@@ -1,6 +1,6 @@
 -- The slots of an answer lie within the room that was offered for them.
 use Rattle.std.specs.Prelude.{eqb}
-use Rattle.std.proofs.Common.{ℕ, ◌+◌, ◌-◌, ◌≤◌, Bool, true, false, List, ◌++◌, length, replicate, length-append, arith}
+use Rattle.std.proofs.Common.{ℕ, ◌-◌, ◌≤◌, Bool, true, false, List, ◌++◌, length, replicate, length-append, arith}
 use Rattle.paper.specs.Lists.{pick}
 use Rattle.paper.specs.Ask.{MeetsAsk, ask_answer, ask_slice, ask_fault, answer_slots}
 use Rattle.paper.specs.declared.Answer.{Answer}
