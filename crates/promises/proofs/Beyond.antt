@@ -1,5 +1,5 @@
 -- The bits beyond a cut: their reader passes exactly where the bytes are written from bits of which none beyond the cut is set.
-use Prim.Native.Nat.{ℕ, ◌+◌, ◌-◌, ◌*◌, ◌/◌, ◌%◌, ◌≤◌, ◌<◌}
+use Prim.Native.Nat.{ℕ, ◌+◌, ◌*◌, ◌%◌, ◌≤◌, ◌<◌}
 use mathlib.Core.Path.{◌≡◌, sym, ap, ◌∙◌}
 use mathlib.Core.Bool.{true≢false}
 use mathlib.Core.Logic.{◌⊎◌}
@@ -19,7 +19,7 @@ use Rattle.laws.proofs.Bits.{next_found}
 use Rattle.laws.proofs.Records.{Unset}
 use Rattle.meaning.proofs.Rising.{has_high}
 use Rattle.meaning.proofs.Bits.{bits_rise}
-use Rattle.meaning.proofs.Parting.{Clean, unset_clean, clean_unset, bits_clean}
+use Rattle.meaning.proofs.Parting.{unset_clean, clean_unset, bits_clean}
 use Rattle.promises.proofs.RecordRows.{Rubbish, Tidy}
 
 module _ (c : ℕ) (bits : List ℕ) (size : length bits ≡ bit_length c) where

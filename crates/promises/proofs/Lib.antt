@@ -44,9 +44,12 @@ pub mod SearchFinds
 pub mod FoundOrNot
 pub mod BinaryDigits
 pub mod SearchCost
+pub mod SearchPrices
 pub mod Bills
 pub mod WalkCost
+pub mod WalkNear
 pub mod BestBills
+pub mod BestFirst
 pub mod SeekCodes
 pub mod SkipCost
 pub mod AnswerCost
@@ -66,6 +69,7 @@ pub mod WriteExamples
 pub mod Reserving
 pub mod ReserveRows
 pub mod ReserveGaps
+pub mod ReserveSpans
 pub mod ReserveNumbers
 pub mod ReserveExamples
 pub mod Closing

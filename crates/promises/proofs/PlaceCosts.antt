@@ -12,7 +12,7 @@ use borrow.Author.Tests.{eq-eqb}
 use Rattle.paper.specs.Lists.{has, keep}
 use Rattle.paper.specs.Record.{record_fault}
 use Rattle.paper.specs.Held.{Listed, listed, contents, count_of}
-use Rattle.paper.specs.Index.{u_of, block_length, k_of, record_of, held}
+use Rattle.paper.specs.Index.{u_of, block_length, record_of, held}
 use Rattle.paper.specs.Walk.{walk_list}
 use Rattle.paper.specs.Question.{Charge, in_all, positions, in_order, charged_at, places}
 use Rattle.paper.specs.Ask.{named, costs, ask_answer}

@@ -1,19 +1,18 @@
 -- [Order 2] The sixteen places of an answer, taken together: they add up to what is charged in all.
 use Prim.Native.Nat.{ℕ, zero, suc, ◌+◌, ◌≤◌, ◌<◌}
-use mathlib.Core.Path.{◌≡◌, refl, sym, ap, ◌∙◌}
-use mathlib.Core.Bool.{Bool, true, false}
+use mathlib.Core.Path.{◌≡◌, refl, sym, ◌∙◌}
 use mathlib.Core.List.{List, [], ◌∷◌, map}
 use native.Mathlib.Decide.{ℕ_discrete}
 use native.Mathlib.Omega.{arith}
 use lib.Dec.{eqb}
-use lib.ListN.{length, get_or, drop, length-map, length-drop}
+use lib.ListN.{length, get_or, length-drop}
 use lib.Seq.{get_or-drop}
 use borrow.Author.Tests.{eq-eqb, ne_eqb}
 use Rattle.paper.specs.Lists.{pick, total, up_from}
 use Rattle.paper.specs.Question.{Charge, positions, charged_at, places}
 use Rattle.paper.specs.Ask.{named, ask_fault, costs, ask_answer}
 use Rattle.laws.proofs.Questions.{named_many}
-use Rattle.laws.proofs.Places.{charged_none, charged_here, charged_there, places_length}
+use Rattle.laws.proofs.Places.{places_length}
 use Rattle.meaning.proofs.Common.{positions_length, position_inside}
 use Rattle.promises.proofs.QuestionNumbers.{Passed, passed}
 use Rattle.promises.proofs.AnswerCost.{charged, skips_charged}

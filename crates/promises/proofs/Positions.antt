@@ -20,7 +20,8 @@ use Rattle.meaning.proofs.Orders.{Before}
 use Rattle.promises.proofs.ExampleRows.{labelled}
 use Rattle.promises.proofs.QuestionExamples as examples
 use Rattle.promises.proofs.QuestionExamples.{Charges}
-use Rattle.promises.proofs.WalkCost.{searches, allowed, bill_bounds, spare_walks}
+use Rattle.promises.proofs.WalkCost.{searches, allowed, bill_bounds}
+use Rattle.promises.proofs.WalkNear.{spare_walks}
 use Rattle.promises.proofs.Bills.{bill, bill_old}
 use Rattle.promises.proofs.SkipOrder.{sizes}
 use Rattle.promises.proofs.PlaceSums as sums

@@ -29,7 +29,7 @@ use Rattle.promises.proofs.WriteBytes.{high_in, as_written_for}
 use Rattle.promises.proofs.WriteNumbers.{sizes_or, write_table, twelve_short}
 use Rattle.promises.proofs.ReserveRows.{GoesInto, BoundFor, BoundRefused, BoundAccepted}
 use Rattle.promises.proofs.ReserveRows.BoundRefused.{u_range, b_range, cut_above, too_many}
-use Rattle.promises.proofs.ReserveGaps.{encode_within}
+use Rattle.promises.proofs.ReserveSpans.{encode_within}
 
 -- THE TABLE
 module _ (u B cut n : ℕ) where

@@ -55,7 +55,7 @@ module _ (s : ℕ → ℕ) (x : ℕ) where
     abbrev Reaches : ℕ → ℕ → Sought → Type 0
     Reaches d lo r = (k : ℕ) → d ≡ 2 ^ suc k → lo ≡ p + 2 ^ k → lo ≤ m → looks_of r + suc (suc k) ≤ 2 * digits (m - p)
 
-    gallop_reach : (d lo : ℕ) → 1 ≤ d → Reaches d lo (galloped s x m p d lo)
+    pub gallop_reach : (d lo : ℕ) → 1 ≤ d → Reaches d lo (galloped s x m p d lo)
     gallop_reach =
         gallop_ind s x m p {P = Reaches}
         (record {
@@ -86,7 +86,7 @@ pub billed : (e : ℕ) → Enough e (1 + 2 * e)
 billed e = record { one = omega arith; twice = omega arith }
 
 -- so much costs a search no more
-cost_priced : (e w : ℕ) → Enough e w → (n looks : ℕ) → Cost n looks → looks ≤ w + 2 * (n / 2 ^ e)
+pub cost_priced : (e w : ℕ) → Enough e w → (n looks : ℕ) → Cost n looks → looks ≤ w + 2 * (n / 2 ^ e)
 cost_priced e w h zero looks c = let s = c.stayed refl in let o = h.one in omega arith
 cost_priced e w h (suc n) looks c = let l = c.moved (omega arith) in let f = digits_shift e (suc n) in let d = h.twice in omega arith
 
@@ -103,30 +103,6 @@ module _ (s : ℕ → ℕ) (x m p : ℕ) where
           let f = gallop_from s x m p 2 (p + 1) (omega arith) (omega arith) in
           let l = gallop_looks s x m p 2 (p + 1) (omega arith) 0 refl refl in
           rw (search_good s x m p a b) (record { moved = λ h. omega arith; stayed = λ h. absurd (omega arith) })
-
-  -- [Order 14] and so at most its price, and two for each 2 to the power of e positions that the finger moves on
-  pub search_priced : (e w : ℕ) → Enough e w → looks_of (searched s x m p) ≤ w + 2 * (((searched s x m p).j - p) / 2 ^ e)
-  search_priced e w h = cost_priced e w h _ _ search_cost
-
-  -- [Order 14] a search looks at nothing where nothing lies ahead, and else costs less than two looks for each binary digit of what lies ahead
-  pub search_none : m ≤ p → looks_of (searched s x m p) ≡ 0
-  search_none h = rw (search_past s x m p (omega arith))
-
-  pub search_reach : p < m → looks_of (searched s x m p) < 2 * digits (m - p)
-  search_reach h = go (dec_le (s (p + 1)) x)
-    where
-      go : Dec (s (p + 1) ≤ x) → looks_of (searched s x m p) < 2 * digits (m - p)
-      go (no b) = let o = digits_over 0 (m - p) (omega arith) in rw (search_fail s x m p (omega arith) (omega arith)) (omega arith)
-      go (yes b) =
-          let r = gallop_reach s x m p 2 (p + 1) (omega arith) 0 refl refl (omega arith) in rw (search_good s x m p (omega arith) b) (omega arith)
-
-  -- so any price that is enough leaves one look over, where all that lies ahead is paid for
-  pub search_under : (e w : ℕ) → Enough e w → looks_of (searched s x m p) < w + 2 * ((m - p) / 2 ^ e)
-  search_under e w h = go (dec_le m p)
-    where
-      go : Dec (m ≤ p) → looks_of (searched s x m p) < w + 2 * ((m - p) / 2 ^ e)
-      go (yes l) = let z = search_none l in let o = h.one in omega arith
-      go (no l) = let r = search_reach (omega arith) in let f = digits_shift e (m - p) in let d = h.twice in omega arith
 
   -- what lies ahead of the finger before the search covers the way that it goes and what lies ahead then, also where it begins past m
   pub search_ahead : (searched s x m p).j - p + (m - (searched s x m p).j) ≤ m - p

@@ -3,7 +3,7 @@ use Prim.Native.Nat.{ℕ, ◌+◌, ◌≤◌, ◌<◌}
 use mathlib.Core.Path.{◌≡◌, refl, ap, ◌∙◌}
 use mathlib.Core.List.{List, [], ◌∷◌}
 use native.Mathlib.Omega.{arith}
-use Rattle.paper.specs.Search.{at, saw, mid, halved, galloped, searched}
+use Rattle.paper.specs.Search.{saw, mid, halved, galloped, searched}
 use Rattle.laws.proofs.Lists.{In}
 use Rattle.laws.proofs.Lists.In.{here, there}
 use Rattle.laws.proofs.Searches.{halve_ind, halve_one, halve_up, halve_down, gallop_ind, gallop_past, gallop_fail, gallop_good}

@@ -34,7 +34,8 @@ use Rattle.promises.proofs.SearchFinds as finds
 use Rattle.promises.proofs.SearchFinds.{entry_at}
 use Rattle.promises.proofs.FoundOrNot.{Apart, found_walk, found_charges, walk_alike, charges_alike}
 use Rattle.promises.proofs.BinaryDigits.{digits, digits_none, digits_below, digits_from, digits_shift}
-use Rattle.promises.proofs.SearchCost.{search_cost, search_priced, search_reach, billed}
+use Rattle.promises.proofs.SearchCost.{search_cost, billed}
+use Rattle.promises.proofs.SearchPrices.{search_priced, search_reach}
 use Rattle.promises.proofs.WalkCost.{
   searches,
   search_of,
@@ -53,7 +54,8 @@ use Rattle.promises.proofs.WalkCost.{
   walk_allowed,
 }
 use Rattle.promises.proofs.Bills.{bill, bill_by, old_bill, bill_grows}
-use Rattle.promises.proofs.BestBills.{bill_first, bill_capped}
+use Rattle.promises.proofs.BestBills.{bill_capped}
+use Rattle.promises.proofs.BestFirst.{bill_first}
 use Rattle.promises.proofs.SeekCodes.{below, block_of, seek_codes, try_codes, try_few, walk_codes}
 use Rattle.promises.proofs.SkipCost.{searches_in, seen_in, read_in, bound_of, AtMost}
 use Rattle.promises.proofs.AnswerCost.{looks_charged, codes_charged, visits_of}

@@ -3,7 +3,7 @@ use Prim.Native.Nat.{ℕ, zero, suc, ◌+◌, ◌-◌, ◌*◌, ◌/◌, ◌^◌
 use mathlib.Core.Path.{◌≡◌, refl, ap}
 use mathlib.Core.List.{List, [], ◌∷◌, ◌++◌}
 use native.Mathlib.Decide.{dec_le, ℕ_discrete}
-use native.Mathlib.Nat.{le_trans, le_refl, sub-zero}
+use native.Mathlib.Nat.{le_trans, le_refl}
 use native.Mathlib.Omega.{arith}
 use lib.Dec.{ltb, leb, eqb}
 use lib.ListN.{length, length-append}
@@ -14,7 +14,8 @@ use Rattle.paper.specs.Search.{Sought, looks_of, searched}
 use Rattle.paper.specs.Walk.{tried, walk_list}
 use Rattle.laws.proofs.Lists.{keep_pass, keep_fail}
 use Rattle.meaning.proofs.Trying.{try_bit, try_search}
-use Rattle.promises.proofs.SearchCost.{Enough, billed, search_cost, search_priced, search_ahead, search_under}
+use Rattle.promises.proofs.SearchCost.{Enough, billed, search_cost, search_ahead}
+use Rattle.promises.proofs.SearchPrices.{search_priced, search_under}
 use Rattle.promises.proofs.BinaryDigits.{digits}
 use Rattle.promises.proofs.Bills.{bill, bill_by, old_bill, floors_add, bill_grows, bill_old, bill_none}
 
@@ -183,7 +184,3 @@ bill_bounds e l xs = walk_bill l xs (e (searches l xs) l.m) 0
 -- and the old bound, being the bill with e = 0
 pub old_bounds : Bounds old_bill
 old_bounds l xs = rw bill_old at (walk_bill l xs 0 0)
-
--- HOW NEAR, from finger 0 on
-pub spare_walks : (e : ℕ) → OfWalks (λ n q m. 0 < q → (n < bill e q m) × (0 < e → n + q < bill e q m))
-spare_walks e l xs some = (rw sub-zero at (walk_below l xs e 0 some), λ h. rw sub-zero at (walk_spare l xs e 0 some h))

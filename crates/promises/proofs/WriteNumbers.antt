@@ -1,5 +1,5 @@
 -- Writing a record: a number and a place are given exactly when the rows of the table say so.
-use Prim.Native.Nat.{ℕ, ◌+◌, ◌≤◌, ◌<◌}
+use Prim.Native.Nat.{ℕ, ◌<◌}
 use mathlib.Core.Path.{◌≡◌, refl, sym, ap, ◌∙◌}
 use mathlib.Core.Logic.{◌⊎◌}
 use mathlib.Core.Logic.◌⊎◌.{inl, inr}
@@ -8,7 +8,7 @@ use native.Mathlib.Decide.{dec_lt, dec_le}
 use native.Mathlib.Omega.{arith}
 use lib.ListN.{length, length-append}
 use lib.Dec.{leb}
-use borrow.Author.Tests.{lt-ltb, le-ltb, le-leb, lt-leb}
+use borrow.Author.Tests.{lt-ltb, le-leb}
 use Rattle.paper.specs.Refusal.{verdict, accepted, fault12, good_slots, fault13, fault15}
 use Rattle.paper.specs.Write.{encode, write_fault, written_with, write_answer}
 use Rattle.paper.specs.declared.Verdict.{Verdict}
