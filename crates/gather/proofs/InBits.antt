@@ -53,6 +53,21 @@ module _ (bits : List ℕ) (cut : ℕ) (t : List ℕ) (size : ℕ) (s : List ℕ
     set_none : b ≡ false → bits_from bits cut x ≡ bits_from bits cut (x + 1)
     set_none e = rw next (up_fail (bit_at bits) x _ (sym is ∙ e))
 
+    -- there is room for it
+    pub bit_room : b ≡ true → w < length s
+    bit_room e = omega (arith, h.fill.room, h.fill.long, ap length (set_one e))
+
+    -- it is put to the others
+    pub bit_set : b ≡ true → Bits bits cut t size (set s w x) (x + 1) (w + 1)
+    bit_set e =
+        let f = ap length (set_one e) in
+        let z : length (bits_from bits cut x) - 1 ≡ length (bits_from bits cut (x + 1)) = omega arith in
+        record { some = omega arith; fill = rw z at (put h.fill x _ (set_one e) (omega arith)) }
+
+    -- a bit that is not set is passed over
+    pub bit_clear : b ≡ false → Bits bits cut t size s (x + 1) w
+    bit_clear e = record { some = omega arith; fill = rw (set_none e) at h.fill }
+
     -- x is stored, and stays where its bit is set
     pub bit_stored : (m : ℕ) → m ≡ bit_of b → w < length s → Bits bits cut t size (set s w x) (x + 1) (w + m)
     bit_stored m e k = go b refl

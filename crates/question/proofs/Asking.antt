@@ -28,6 +28,8 @@ use Rattle.meaning.proofs.Charging.{charge, skips_charged, plain_costs}
 use Rattle.record.specs.Front.{Front, Candidates}
 use Rattle.skips.specs.declared.Walked.{Walked}
 use Rattle.skips.specs.Walks.{Walks}
+use Rattle.plain.specs.Sifted.{plainly}
+use Rattle.plain.proofs.Meant.{plainly_keeps}
 use Rattle.names.specs.Asked.{Asked}
 use Rattle.question.specs.Answered.{Ordered, Gathered, Answers}
 
@@ -216,6 +218,10 @@ module _ (index names : List ℕ) where
               rise = rw f.are (keep_rise _ u 0 (take n s) h.rise);
               same = rw f.are (rw next at h.same);
             }
+
+        -- a merge of any candidates
+        pub left_merged : (t : List ℕ) (m : ℕ) → Front (plainly (listed u B (record_of index name)) (take n s)) m t → Left t m (r + 1)
+        left_merged t m f = left_turn t m (rw (plainly_keeps u B _ some_b next_sound (take n s) h.rise) at f)
 
         walked : (walk_list (listed u B (record_of index name)) 0 (take n s)).kept
             ≡ keep (λ x. has x (contents u B (record_of index name))) (take n s)

@@ -108,25 +108,20 @@ module _ (l : Listed) (xs : List ℕ) (n : ℕ) (s : List ℕ) (w i p looks code
           rw finger_is (omega arith)
 
       module _ (fewL : t.looks < 4294967296) (fewC : t.codes < 4294967296) where
-        x : ℕ
-        x = get_or s i 0
-
-        -- it is stored behind those kept, and stays there or not
-        on : (w₂ : ℕ) → w₂ ≤ i + 1 → take w₂ (set s w x) ++ (walk_list l (tried l p x).finger (slice (i + 1) n xs)).kept ≡ (walk_list l 0 (slice 0 n xs)).kept
-            → Head l xs n (set s w x) w₂ (i + 1) t.finger (looks + t.looks) (codes + t.codes)
-        unfolding x
-        on w₂ b kept =
-            let o = h.behind in
+        -- s₂ holds one of them more at its front, or none
+        on : (s₂ : List ℕ) (w₂ : ℕ) → w₂ ≤ i + 1 → length s₂ ≡ length s → slice (i + 1) n s₂ ≡ slice (i + 1) n xs
+            → take w₂ s₂ ++ (walk_list l (tried l p (get_or s i 0)).finger (slice (i + 1) n xs)).kept ≡ (walk_list l 0 (slice 0 n xs)).kept
+            → Head l xs n s₂ w₂ (i + 1) t.finger (looks + t.looks) (codes + t.codes)
+        on s₂ w₂ b long unread kept =
             let r = h.room in
             let a = h.few_looks in
             let c = h.few_codes in
-            let g = length-set s w x in
             record {
               behind = b;
               within = omega arith;
               room = omega arith;
-              long = g ∙ h.long;
-              unread = rw (take-set-lt n s w x (omega arith), drop-set-lt (i + 1) (take n s) w x (omega arith)) later;
+              long = long ∙ h.long;
+              unread = unread;
               kept = rw finger_is kept;
               all_looks = looks_on;
               codes_of_all = codes_on;
@@ -134,31 +129,41 @@ module _ (l : Listed) (xs : List ℕ) (n : ℕ) (s : List ℕ) (w i p looks code
               few_codes = omega arith;
             }
 
-        found_is : t.found ≡ eqb (tried l p x).slot x
-        unfolding x
+        found_is : t.found ≡ eqb (tried l p (get_or s i 0)).slot (get_or s i 0)
         found_is = ap (λ (t : Tried). t.found) e
 
-        -- the place behind those kept moves on where it is found
+        -- found: it is kept
+        pub turn_found : t.found ≡ true → Head l xs n (set s w (get_or s i 0)) (w + 1) (i + 1) t.finger (looks + t.looks) (codes + t.codes)
+        turn_found f =
+            let b = h.behind in
+            let r = h.room in
+            let x = get_or s i 0 in
+            on (set s w x) (w + 1) (omega arith) (length-set s w x)
+            (rw (take-set-lt n s w x (omega arith), drop-set-lt (i + 1) (take n s) w x (omega arith)) later)
+            (rw (add-one w, take-suc-set s w x (omega arith), append_assoc)
+            (ap (λ (k : List ℕ). take w s ++ k) (sym (found_first l p x (slice (i + 1) n xs) (sym found_is ∙ f))) ∙ rw split at h.kept))
+
+        -- not found: it is not
+        pub turn_lost : t.found ≡ false → Head l xs n s w (i + 1) t.finger (looks + t.looks) (codes + t.codes)
+        turn_lost f =
+            let b = h.behind in
+            on s w (omega arith) refl later
+            (ap (λ (k : List ℕ). take w s ++ k) (sym (lost_first l p (get_or s i 0) (slice (i + 1) n xs) (sym found_is ∙ f))) ∙ rw split at h.kept)
+
+        -- stored in any case: the place behind those kept moves on where it is found
         pub turn : (m : ℕ) → m ≡ bit_of t.found → Head l xs n (set s w (get_or s i 0)) (w + m) (i + 1) t.finger (looks + t.looks) (codes + t.codes)
-        unfolding x
         turn m is = go t.found refl
           where
             go : (f : Bool) → t.found ≡ f → Head l xs n (set s w (get_or s i 0)) (w + m) (i + 1) t.finger (looks + t.looks) (codes + t.codes)
-            go true f =
-                let b = h.behind in
-                let r = h.room in
-                let j : m ≡ 1 = rw f at is in
-                rw j
-                (on (w + 1) (omega arith)
-                (rw (add-one w, take-suc-set s w x (omega arith), append_assoc)
-                (ap (λ (k : List ℕ). take w s ++ k) (sym (found_first l p x (slice (i + 1) n xs) (sym found_is ∙ f))) ∙ rw split at h.kept)))
+            go true f = let j : m ≡ 1 = rw f at is in rw j (turn_found f)
             go false f =
                 let b = h.behind in
                 let j : m ≡ 0 = rw f at is in
                 rw (j, add-zero w)
-                (on w (omega arith)
-                (rw (take-set-le w s w x (omega arith))
-                (ap (λ (k : List ℕ). take w s ++ k) (sym (lost_first l p x (slice (i + 1) n xs) (sym found_is ∙ f))) ∙ rw split at h.kept)))
+                (on (set s w (get_or s i 0)) w (omega arith) (length-set s w (get_or s i 0))
+                (rw (take-set-lt n s w (get_or s i 0) (omega arith), drop-set-lt (i + 1) (take n s) w (get_or s i 0) (omega arith)) later)
+                (rw (take-set-le w s w (get_or s i 0) (omega arith))
+                (ap (λ (k : List ℕ). take w s ++ k) (sym (lost_first l p (get_or s i 0) (slice (i + 1) n xs) (sym found_is ∙ f))) ∙ rw split at h.kept)))
 
   module _ (done : n ≤ i) (small : n ≤ 1048576) where
     nothing : slice i n xs ≡ []
