@@ -1,27 +1,20 @@
 -- What the checks of closing cite: a start of the list, and the refusals before the lists, one law for each way out.
 use Prim.Native.Nat.{ℕ, ◌≤◌, ◌<◌}
-use mathlib.Core.Path.{◌≡◌, refl, sym, ◌∙◌}
+use mathlib.Core.Path.{◌≡◌, refl, sym, ap, ◌∙◌}
 use mathlib.Core.Bool.{false}
 use mathlib.Core.List.{List}
 use native.Mathlib.Omega.{arith}
-use lib.ListN.{length, get_or, get_or-eq_default}
+use lib.ListN.{length, get_or-eq_default}
 use Rattle.paper.specs.Refusal.{verdict, accepted, finished, too_short, starts_fault, fault1, fault4, fault4k, fault12}
 use Rattle.paper.specs.Look.{list_fault, lists_fault}
 use Rattle.paper.specs.Close.{start_in, close_fault}
+use Rattle.paper.specs.Fault.{number_of}
 use Rattle.paper.specs.declared.Verdict.{Verdict}
-use Rattle.laws.proofs.Lists.{at_any}
-use Rattle.laws.proofs.Frames.{one_up, within_passed, starts_passed, room_passed, Laid, laid, lists_accept}
-use Rattle.laws.proofs.Links.{Link, link_bad, link_good, link_both, link_closed, one_large, one, twelve_small, twelve}
-use Rattle.frame.proofs.Steps.{Head, all_left}
+use Rattle.paper.specs.declared.refusal.Refusal.{Refusal}
+use Rattle.laws.proofs.Frames.{one_up, within_passed, starts_passed, room_passed, k_within, Laid, laid, lists_accept}
+use Rattle.laws.proofs.Links.{number_links, Link, link_bad, link_good, link_both, link_closed, one_large, one, twelve_small, twelve}
+use Rattle.laws.proofs.Faults.{some_number, told_on}
 use Rattle.closing.specs.Given.{room_fault, given_fault}
-
--- a start that stands in the list
-pub start_here : (starts : List ℕ) (D i : ℕ) → i < length starts → get_or starts i 0 ≡ start_in starts D i
-start_here starts D i l = at_any starts i 0 D l
-
--- behind the last: D
-pub start_behind : (starts : List ℕ) (D i : ℕ) → length starts ≤ i → D ≡ start_in starts D i
-start_behind starts D i l = sym (get_or-eq_default starts D {n = i} l)
 
 -- 1, 12 and 5, the finished index having so many bytes
 module _ (room D : ℕ) (starts : List ℕ) (size : ℕ) (is : size ≡ finished D (length starts)) where
@@ -40,15 +33,21 @@ module _ (room D : ℕ) (starts : List ℕ) (size : ℕ) (is : size ≡ finished
     size_roomless g = rw (← is) (one _ size least l _ (twelve_small _ room size g))
 
     -- as many as there may be: the starts tell
-    pub starts_tell : size ≤ room → (f : ℕ) → verdict f 0 ≡ starts_fault (start_in starts D) (length starts) accepted → verdict f 0 ≡ room_fault room D starts
+    pub starts_tell : size ≤ room → (v : Verdict) → v ≡ starts_fault (start_in starts D) (length starts) accepted → v ≡ room_fault room D starts
     unfolding room_fault
-    starts_tell g f e = rw (← is) (one _ size least l _ (twelve _ room size g _ e))
+    starts_tell g v e = rw (← is) (one _ size least l _ (twelve _ room size g _ e))
+
+-- all of these
+pub ruleset rooms = (size_large, size_roomless, starts_tell, told_on)
 
 -- 4 before them
 pub given : (room u B D : ℕ) (starts : List ℕ) (r : Verdict) → r ≡ fault4 u B (fault4k (length starts) (room_fault room D starts))
     → r ≡ given_fault room u B D starts
 unfolding given_fault
 given room u B D starts r e = e
+
+-- the links of 4, with these behind them
+pub ruleset before_lists = (number_links, given, k_within, told_on)
 
 -- what these say where they pass
 pub record Given (room B D : ℕ) (starts : List ℕ) : Type 0 where
@@ -71,25 +70,25 @@ module _ (room u B D : ℕ) (starts : List ℕ) (ok : (given_fault room u B D st
       let f = starts_passed (start_in starts D) (length starts) accepted e.1 in
       record { some_b = b.0; few = c.1; small = d.1; fits = e.0; first = f.0; short = f.1 }
 
-  -- the lists are few
-  pub lists_few : length starts ≤ 4096
-  lists_few = passed.few
-
 -- the lists of a buffer that passes them
-module _ (bs : List ℕ) (u B D : ℕ) (starts : List ℕ) (ok : (given_fault (length bs) u B D starts).number ≡ 0) where
-  records_lie : Laid (length bs) (start_in starts D) (length starts)
+module _ (bs : List ℕ) (u B D : ℕ) (starts : List ℕ) (ok : accepted ≡ given_fault (length bs) u B D starts) where
+  given_passed : Given (length bs) B D starts
+  given_passed = passed (length bs) u B D starts (sym (ap (λ (v : Verdict). v.number) ok))
+
+  -- the records lie one behind the other
+  pub records_lie : Laid (length bs) (start_in starts D) (length starts)
   records_lie =
-      let s = passed (length bs) u B D starts ok in
-      let z : start_in starts D (length starts) ≡ D = sym (start_behind starts D (length starts) (omega arith)) in
+      let s = given_passed in
+      let z : start_in starts D (length starts) ≡ D = get_or-eq_default starts D {n = length starts} (omega arith) in
       laid (length bs) (start_in starts D) (length starts) s.first s.short (rw z (let g = s.fits in omega arith))
 
-  -- a block has a slot
-  pub block_some : 0 < B
-  block_some = (passed (length bs) u B D starts ok).some_b
+  -- they are few
+  pub lists_few : length starts ≤ 4096
+  lists_few = given_passed.few
 
-  -- all are left
-  pub lists_begin : (k : ℕ) → k ≡ length starts → Head bs (start_in starts D) u B k (lists_fault (list_fault u B) bs (start_in starts D) (length starts) 0) 0 0
-  lists_begin k is = rw is (all_left bs (start_in starts D) u B (length starts) records_lie)
+  -- and a block has a slot
+  pub block_some : 0 < B
+  block_some = given_passed.some_b
 
 -- closing: these, and then the lists
 module _ (bs : List ℕ) (u B D : ℕ) (starts : List ℕ) where
@@ -105,22 +104,15 @@ module _ (bs : List ℕ) (u B D : ℕ) (starts : List ℕ) where
   link_given : Link given_then
   link_given = link_closed (length bs) u B (finished D (length starts)) (length starts) (start_in starts D)
 
-  -- v is what was said before the lists
-  module _ (v : Verdict) (is : v ≡ given_fault (length bs) u B D starts) where
-    -- a refusal stands
-    pub given_refuse : ¬ (v.number ≡ 0) → v ≡ close_fault bs u B D starts
-    unfolding close_fault given_fault room_fault
-    given_refuse n = sym (link_bad given_then link_given v is lists n)
+  -- a refusal before the lists stands
+  pub given_refuse : (r : Refusal) → verdict (number_of r.fault) r.place ≡ given_fault (length bs) u B D starts → verdict (number_of r.fault) r.place ≡ close_fault bs u B D starts
+  unfolding close_fault given_fault room_fault
+  given_refuse r is = sym (link_bad given_then link_given _ is lists (λ z. let s = some_number r.fault in omega arith))
 
-    module _ (z : v.number ≡ 0) where
-      -- nothing refuses
-      pub given_pass : (given_fault (length bs) u B D starts).number ≡ 0
-      given_pass = rw (← is) z
-
-      -- and the lists tell
-      pub lists_tell : (r : Verdict) → r ≡ lists → r ≡ close_fault bs u B D starts
-      unfolding close_fault given_fault room_fault
-      lists_tell r e = e ∙ sym (link_good given_then link_given v is lists z)
+  -- where nothing refuses there, the lists tell
+  pub lists_tell : accepted ≡ given_fault (length bs) u B D starts → (v : Verdict) → v ≡ lists → v ≡ close_fault bs u B D starts
+  unfolding close_fault given_fault room_fault
+  lists_tell is v e = e ∙ sym (link_good given_then link_given _ is lists refl)
 
   module _ (ok : (close_fault bs u B D starts).number ≡ 0) where
     neither : ((given_fault (length bs) u B D starts).number ≡ 0) × (lists.number ≡ 0)
@@ -135,3 +127,6 @@ module _ (bs : List ℕ) (u B D : ℕ) (starts : List ℕ) where
     pub close_accepted : close_fault bs u B D starts ≡ accepted
     unfolding close_fault given_fault room_fault
     close_accepted = link_good given_then link_given _ refl lists neither.0 ∙ lists_accept (list_fault u B) bs (start_in starts D) (length starts) 0 neither.1
+
+-- the ways out of closing
+pub ruleset closings = (given_refuse, lists_tell, records_lie, lists_few, block_some, told_on)

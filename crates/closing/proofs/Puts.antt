@@ -44,6 +44,9 @@ module _ {t : List ℕ} {size at : ℕ} {starts room : List ℕ} {i : ℕ} (h : 
         same = both.is ∙ (rw (front starts i x l refl) at h.same);
       }
 
+-- all of these
+pub ruleset puttings = (putting_begin, putting_done, putting_turn)
+
 -- t put in the place of as many bytes from `at` on. (It is said of any t: with the tag's own bytes, `++` computes and the laws no longer fit)
 copied : (t l : List ℕ) (at n : ℕ) (r : List ℕ) → at + length t ≤ length l → n ≡ length t → r ≡ t → put_mid at n l r ≡ sets l at t
 copied t l at n r h w e = rw (w, e, sets-eq t l at h) (simp (append_assoc, drop-drop))

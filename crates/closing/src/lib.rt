@@ -5,55 +5,36 @@ ghost use Rattle.std.specs.Prelude.{◌≡◌, ◌+◌, ◌*◌, ◌≤◌, ◌<
 ghost use mathlib.Core.List.{map, flatten};
 ghost use Rattle.std.proofs.lemmas.List.Edits.{sets};
 ghost use Rattle.paper.specs.Bytes.{u32_bytes};
-ghost use Rattle.paper.specs.Refusal.{verdict, accepted, tag, finished, too_short, starts_fault};
-ghost use Rattle.paper.specs.Look.{list_fault, lists_fault};
+ghost use Rattle.paper.specs.Refusal.{tag, finished};
+ghost use Rattle.paper.specs.Fault.{told};
 ghost use Rattle.paper.specs.Close.{start_in, close_fault, frame_bytes};
 ghost use Rattle.closing.specs.Given.{room_fault, given_fault};
 ghost use Rattle.closing.specs.Trailer.{trailer};
 
-use frame::{TAG, check_count, check_sizes};
-use paper::Verdict;
-use record::check_record;
+use frame::{Starts, TAG, check_count, check_records, check_sizes, check_starts};
+use paper::refusal::{Fault, Refusal};
 use words::put_u32;
 
-// Where record i starts; behind the last record, where the directory is to start.
-fn start_at(starts: &[u32], total: u32, i: usize) -> usize
-    ensures { (result ≡ start_in starts.now total i) × (result < 4294967296) }
-{
-    if i < starts.len() {
-        return starts[i] as usize;
-    }
-    total as usize
+// The starts that closing is given, of records in the first `total` bytes of a buffer.
+#[derive(Clone, Copy)]
+struct Given<'a> {
+    starts: &'a [u32],
+    total: u32,
 }
 
-// Whether the starts leave some record fewer than 12 bytes.
-fn too_short(starts: &[u32], total: u32) -> bool
-    ensures { result ≡ too_short (start_in starts.now total) (length starts.now) 0 }
-{
-    let mut from = start_at(starts, total, 0);
-    let mut i: usize = 0;
-    while i < starts.len() {
-        let to = start_at(starts, total, i + 1);
-        if to < from + 12 {
-            return true;
-        }
-        from = to;
-        i = i + 1;
-    }
-    false
-}
+// Behind the last record the directory is to start.
+impl<'a> Starts for Given<'a> {
+    ghost begins = { λ g. start_in g.starts.now g.total };
 
-// 5 of the starts: the first of them, then the lengths of the records.
-fn check_starts(starts: &[u32], total: u32) -> u32
-    ensures { verdict result 0 ≡ starts_fault (start_in starts.now total) (length starts.now) accepted }
-{
-    if start_at(starts, total, 0) != 0 {
-        return 5;
+    ghost many = { λ g. length g.starts.now };
+
+    fn count(&self) -> usize {
+        self.starts.len()
     }
-    if too_short(starts, total) {
-        return 5;
+
+    fn start(&self, i: usize) -> usize {
+        self.starts.get(i).copied().unwrap_or(self.total) as usize
     }
-    0
 }
 
 // The size of the finished index, in 64 bits, where no sum wraps.
@@ -65,90 +46,60 @@ pub fn closed_size(total: u32, starts: &[u32]) -> usize
 }
 
 // 1 of the finished index, 12 of the room for it, then 5.
-fn check_room(room: usize, total: u32, starts: &[u32]) -> Verdict
-    requires { length starts.now ≤ 4096 }
-    ensures { result ≡ room_fault room total starts.now }
+#[tactic(auto, using(crate::proofs::Checks::rooms))]
+fn check_room(room: usize, given: Given<'_>) -> Result<(), Refusal>
+    requires { length given.starts.now ≤ 4096 }
+    ensures { told result ≡ room_fault room given.entry.total given.entry.starts.now }
 {
-    let size = closed_size(total, starts);
+    let size = closed_size(given.total, given.starts);
     if 16777216 < size {
-        return Verdict {
-            number: 1,
-            place: 0,
-        };
+        return Err(Fault::Size.into());
     }
     if room < size {
         let place = size as u32;
-        return Verdict { number: 12, place };
+        return Err(Refusal {
+            fault: Fault::Room,
+            place,
+        });
     }
-    let number = check_starts(starts, total);
-    Verdict { number, place: 0 }
+    check_starts(&given)?;
+    Ok(())
 }
 
 // Every refusal before the lists: 4 of u, of B and of how many lists there are; then 1, 12 and 5.
-fn check_given(room: usize, u: u32, block: u32, total: u32, starts: &[u32]) -> Verdict
-    ensures { result ≡ given_fault room u block total starts.now }
+#[tactic(auto, using(crate::proofs::Checks::before_lists))]
+fn check_given(room: usize, u: u32, block: u32, given: Given<'_>) -> Result<(), Refusal>
+    ensures { told result ≡ given_fault room u block given.entry.total given.entry.starts.now }
 {
-    let number = check_sizes(u, block);
-    if number != 0 {
-        return Verdict { number, place: 0 };
-    }
-    let count = check_count(starts.len());
-    if count != 0 {
-        return Verdict {
-            number: count,
-            place: 0,
-        };
-    }
-    check_room(room, total, starts)
+    check_sizes(u, block)?;
+    check_count(given.count())?;
+    check_room(room, given)
 }
 
-// The records, one after the other, as looking judges them: the first fault found, its place being the list. Each record is handed on as the
-// part of the buffer that it is.
-fn check_records(room: &[u8], u: u32, block: u32, total: u32, starts: &[u32]) -> Verdict
-    requires { (given_fault (length room.now) u block total starts.now).number ≡ 0 }
-    ensures { result ≡ lists_fault (list_fault u block) room.now (start_in starts.now total) (length starts.now) 0 }
+// Every refusal of closing: those before the lists, then the records, as looking judges them. Nothing is written here.
+#[tactic(auto, using(crate::proofs::Checks::closings))]
+pub fn check_close(
+    room: &[u8],
+    u: u32,
+    block: u32,
+    total: u32,
+    starts: &[u32],
+) -> Result<(), Refusal>
+    ensures { told result ≡ close_fault room.now u block total starts.now }
 {
-    let k = starts.len() as u32;
-    let mut from: usize = 0;
-    let mut i: u32 = 0;
-    while i < k {
-        let to = start_at(starts, total, i as usize + 1);
-        let fault = check_record(&room[from..to], u, block);
-        if fault != 0 {
-            return Verdict {
-                number: fault,
-                place: i,
-            };
-        }
-        from = to;
-        i = i + 1;
-    }
-    Verdict {
-        number: 0,
-        place: 0,
-    }
-}
-
-// Every refusal of closing. Nothing is written here.
-pub fn check_close(room: &[u8], u: u32, block: u32, total: u32, starts: &[u32]) -> Verdict
-    ensures { result ≡ close_fault room.now u block total starts.now }
-{
-    let fault = check_given(room.len(), u, block, total, starts);
-    if fault.number != 0 {
-        return fault;
-    }
-    check_records(room, u, block, total, starts)
+    let given = Given { starts, total };
+    check_given(room.len(), u, block, given)?;
+    check_records(room, u, block, &given)
 }
 
 // Writes the directory: the starts, one after the other, from `at` on.
+#[tactic(auto, using(crate::proofs::Puts::puttings))]
 fn put_starts(room: &mut [u8], at: usize, starts: &[u32])
     requires { at + 4 * length starts.now ≤ length room.old }
     ensures { room.new ≡ sets room.old at (flatten (map u32_bytes starts.now)) }
 {
-    let mut done: usize = 0;
-    while done < starts.len() {
-        put_u32(room, at + 4 * done, starts[done]);
-        done = done + 1;
+    for (i, start) in starts.iter().enumerate() {
+        put_u32(room, at + 4 * i, *start);
     }
 }
 

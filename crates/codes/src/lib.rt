@@ -4,180 +4,195 @@
 ghost use Rattle.std.specs.Prelude.{◌≡◌, ◌+◌, ◌≤◌, ◌<◌, length, drop};
 ghost use Rattle.std.proofs.lemmas.List.Edits.{sets};
 ghost use Rattle.paper.specs.Bytes.{byte_at};
+ghost use Rattle.paper.specs.Lists.{some_slot};
 ghost use Rattle.paper.specs.Code.{code_of, code_bytes};
 ghost use Rattle.paper.specs.Code.Code.{code};
 ghost use Rattle.paper.specs.Block.{read_codes};
 ghost use Rattle.paper.specs.Walk.{seek};
 ghost use Rattle.codes.specs.Got.{as_code, Inside, Stands};
-ghost use Rattle.codes.specs.InBlock.{checked, stopped};
+ghost use Rattle.codes.specs.InBlock.{told, checked, stopped};
 
-use words::{byte, one};
+pub mod block;
 
-// One code: its value and the position behind it, or that there is none.
-#[derive(Drop)]
-pub enum Got {
-    Value(u32, usize),
-    Bad,
-}
+pub use block::Block;
+use paper::refusal::Fault;
+use words::byte;
 
-// The code at position `at`.
-pub fn read_code(s: &[u8], at: usize) -> Got
-    ensures result_value { as_code s.now result ≡ code_of (drop at s.now) }
-    ensures inside { Inside s.now result }
-{
-    if s.len() <= at {
-        return Got::Bad;
-    }
-    let a = byte(s, at);
-    if a < 128 {
-        return Got::Value(a, at + 1);
-    }
-    if s.len() <= at + 1 {
-        return Got::Bad;
-    }
-    let b = byte(s, at + 1);
-    if b < 128 {
-        if b == 0 {
-            return Got::Bad;
-        }
-        return Got::Value(a % 128 + 128 * b, at + 2);
-    }
-    if s.len() <= at + 2 {
-        return Got::Bad;
-    }
-    let c = byte(s, at + 2);
-    if c < 128 {
-        if c == 0 {
-            return Got::Bad;
-        }
-        return Got::Value(a % 128 + 128 * (b % 128) + 16384 * c, at + 3);
-    }
-    Got::Bad
-}
-
-// A code that is known to stand there: its value, and the position behind it.
-#[derive(Drop)]
-pub struct Known {
+// One code: its value, and the position behind it.
+#[derive(Clone, Copy)]
+pub struct CodeAt {
     pub value: u32,
     pub next: usize,
 }
 
-// The code at position `at` by its third byte, where the first two lead on.
-fn known_three(s: &[u8], at: usize, a: u32, b: u32) -> Known
-    requires { (at + 2 < length s.now) × Stands s.now at × (a ≡ byte_at s.now at) × (a < 256) × (b ≡ byte_at s.now (at + 1)) × (b < 256) × (128 ≤ a) × (128 ≤ b) }
-    ensures { (code result.value (drop result.next s.now) ≡ code_of (drop at s.now)) × (result.next ≤ length s.now) }
+// The code at position `at`, where there is one.
+#[tactic(auto, using(laws::proofs::Codes::ways))]
+pub fn read_code(s: &[u8], at: usize) -> Option<CodeAt>
+    ensures result_value { as_code s.now result ≡ code_of (drop at s.now) }
+    ensures inside { Inside s.now result }
 {
-    let c = byte(s, at + 2);
-    let value = a % 128 + 128 * (b % 128) + 16384 * c;
-    let next = at + 3;
-    Known { value, next }
-}
-
-// The code at position `at` by its second byte, where the first leads on.
-fn known_two(s: &[u8], at: usize, a: u32) -> Known
-    requires { (at + 1 < length s.now) × Stands s.now at × (a ≡ byte_at s.now at) × (a < 256) × (128 ≤ a) }
-    ensures { (code result.value (drop result.next s.now) ≡ code_of (drop at s.now)) × (result.next ≤ length s.now) }
-{
-    let b = byte(s, at + 1);
-    if b < 128 {
-        let value = a % 128 + 128 * b;
-        let next = at + 2;
-        return Known { value, next };
+    let a = u32::from(*s.get(at)?);
+    if a < 128 {
+        return Some(CodeAt {
+            value: a,
+            next: at + 1,
+        });
     }
-    known_three(s, at, a, b)
+    let b = u32::from(*s.get(at + 1)?);
+    if b == 0 {
+        return None;
+    }
+    if b < 128 {
+        return Some(CodeAt {
+            value: a % 128 + 128 * b,
+            next: at + 2,
+        });
+    }
+    let c = u32::from(*s.get(at + 2)?);
+    if c == 0 || 128 <= c {
+        return None;
+    }
+    Some(CodeAt {
+        value: a % 128 + 128 * (b % 128) + 16384 * c,
+        next: at + 3,
+    })
 }
 
 // The code at position `at`, where one is known to stand: in a list without a fault nothing but where it ends is left to test.
-pub fn known_code(s: &[u8], at: usize) -> Known
+#[tactic(auto, using(laws::proofs::Codes::ways))]
+pub fn known_code(s: &[u8], at: usize) -> CodeAt
     requires { (at < length s.now) × Stands s.now at }
     ensures { (code result.value (drop result.next s.now) ≡ code_of (drop at s.now)) × (result.next ≤ length s.now) }
 {
     let a = byte(s, at);
     if a < 128 {
-        let next = at + 1;
-        return Known { value: a, next };
+        return CodeAt {
+            value: a,
+            next: at + 1,
+        };
     }
-    known_two(s, at, a)
+    let b = byte(s, at + 1);
+    if b < 128 {
+        return CodeAt {
+            value: a % 128 + 128 * b,
+            next: at + 2,
+        };
+    }
+    let c = byte(s, at + 2);
+    CodeAt {
+        value: a % 128 + 128 * (b % 128) + 16384 * c,
+        next: at + 3,
+    }
 }
 
-// What checking the codes of a block tells: the first fault (0: none), and the last slot before it.
-#[derive(Drop)]
-pub struct Checked {
-    pub fault: u32,
+// A fault among the codes of a block, and the last slot before it.
+#[derive(Clone, Copy, Debug, PartialEq, Eq)]
+pub struct Misread {
+    pub fault: Fault,
     pub last: u32,
 }
 
-// Checks that `s` is `count` codes behind the slot `first`, and nothing more. The gap is held against what is left up to u, so that no sum
-// can leave the range.
-pub fn check_codes(s: &[u8], count: u32, first: u32, u: u32) -> Checked
-    requires { first ≤ u }
-    ensures { result ≡ checked first (read_codes u count first s.now) }
-{
-    let mut at: usize = 0;
-    let mut left = count;
-    let mut last = first;
-    while 0 < left {
-        let got = read_code(s, at);
-        let Got::Value(v, next) = got else {
-            return Checked { fault: 8, last };
-        };
-        if u - last <= v {
-            return Checked { fault: 9, last };
-        }
-        last = last + v + 1;
-        at = next;
-        left = left - 1;
+impl From<Misread> for Fault {
+    ghost from_gives = { λ m f. f ≡ m.fault };
+
+    fn from(misread: Misread) -> Fault {
+        misread.fault
     }
-    if at < s.len() {
-        return Checked { fault: 8, last };
-    }
-    Checked { fault: 0, last }
 }
 
-// Where reading in a block stopped: the slot (0 where it came to no slot that is not below x), and the codes that it took.
-#[derive(Drop)]
+// Checks that `s` is `count` codes behind the slot `first`, and nothing more: the last slot. The gap is held against what is left up to u, so that no sum
+// can leave the range.
+#[tactic(auto, using(crate::proofs::Turns::steps))]
+pub fn check_codes(s: &[u8], count: u32, first: u32, u: u32) -> Result<u32, Misread>
+    requires { first ≤ u }
+    ensures { told result ≡ checked first (read_codes u count first s.now) }
+{
+    let mut at: usize = 0;
+    let mut last = first;
+    for _read in 0..count {
+        let code = read_code(s, at).ok_or(Misread {
+            fault: Fault::Code,
+            last,
+        })?;
+        if u - last <= code.value {
+            return Err(Misread {
+                fault: Fault::Slot,
+                last,
+            });
+        }
+        last = last + code.value + 1;
+        at = code.next;
+    }
+    if at < s.len() {
+        return Err(Misread {
+            fault: Fault::Code,
+            last,
+        });
+    }
+    Ok(last)
+}
+
+// Where reading in a block stopped: the slot, where it came to one that is not below x, and the codes that it took.
+#[derive(Clone, Copy, Debug, PartialEq, Eq)]
 pub struct Stopped {
-    pub slot: u32,
+    pub slot: Option<u32>,
     pub codes: u32,
 }
 
+impl Stopped {
+    // Stopped at a slot, which 0 is not.
+    pub fn at(slot: u32, codes: u32) -> Stopped
+        ensures { result ≡ record { slot = some_slot slot; codes = codes } }
+    {
+        Stopped {
+            slot: (slot != 0).then_some(slot),
+            codes,
+        }
+    }
+}
+
 // Reads a block from its first slot on until a slot that is not below x, or to its end.
+// Kept: beside `seeks::seek_in`, which is given a block that is known to be well. This one is public, and promises the same of any bytes.
+#[tactic(auto, using(crate::proofs::Turns::steps))]
 pub fn seek_in(s: &[u8], count: u32, first: u32, u: u32, x: u32) -> Stopped
     requires { first ≤ u }
     ensures { result ≡ stopped 0 (seek x first (read_codes u count first s.now).slots) }
 {
     let mut at: usize = 0;
-    let mut codes: u32 = 0;
     let mut slot = first;
-    while codes < count {
+    for codes in 0..count {
         if x <= slot {
-            return Stopped { slot, codes };
+            return Stopped::at(slot, codes);
         }
-        let got = read_code(s, at);
-        let Got::Value(v, next) = got else {
-            return Stopped { slot: 0, codes };
+        let Some(code) = read_code(s, at) else {
+            return Stopped { slot: None, codes };
         };
-        if u - slot <= v {
-            return Stopped { slot: 0, codes };
+        if u - slot <= code.value {
+            return Stopped { slot: None, codes };
         }
-        slot = slot + v + 1;
-        at = next;
-        codes = codes + 1;
+        slot = slot + code.value + 1;
+        at = code.next;
     }
     if x <= slot {
-        return Stopped { slot, codes };
+        return Stopped::at(slot, count);
     }
-    Stopped { slot: 0, codes }
+    Stopped {
+        slot: None,
+        codes: count,
+    }
 }
 
 // How many bytes the code of v takes: as few as hold it. There is no branch on v, so that the compiler measures several values side by side.
+#[tactic(auto, using(crate::proofs::Puts::puts))]
 pub fn code_size(v: u32) -> usize
     ensures { (result ≡ length (code_bytes v)) × (result ≤ 3) }
 {
-    1 + one(128 <= v) + one(16384 <= v)
+    1 + usize::from(128 <= v) + usize::from(16384 <= v)
 }
 
 // Writes the code of v from `at` on, and tells the position behind it.
+// Kept: a store for each byte. A copy of an array of them would be no plainer: it names the same bytes, and the places that they go to once more.
+#[tactic(auto, using(crate::proofs::Puts::puts))]
 pub fn put_code(s: &mut [u8], at: usize, v: u32) -> usize
     requires { (v < 2097152) × (at + length (code_bytes v) ≤ length s.old) }
     ensures { (result ≡ at + length (code_bytes v)) × (s.new ≡ sets s.old at (code_bytes v)) }

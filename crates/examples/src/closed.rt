@@ -1,7 +1,8 @@
 // Indexes closed: directory and trailer behind records.
-use check::same;
+ghost use Rattle.std.specs.Prelude.{◌≤◌};
+
 use sheet::make::{PAPER, front, put_bits, put_bytes, put_list};
-use sheet::show::{end, flag, label, verdict, written};
+use sheet::show::verdict;
 use slots::{close, look};
 use std::io;
 
@@ -14,25 +15,21 @@ fn put_records(room: &mut [u8]) {
 // The line of an index closed in `room`, with u 32.
 fn close_in(
     rt: &impl Print,
-    text: &[u8],
+    text: &str,
     room: &mut [u8],
     block: u32,
     total: u32,
     starts: &[u32],
 ) -> io::Result<()> {
     let made = close(room, 32, block, total, starts);
-    label(rt, text)?;
-    written(rt, made)?;
-    end(rt)
+    println!(rt; "{text}: {} {} {}", made.number, made.place, made.length)
 }
 
 // What was closed is a sound index, and the paper's, byte for byte.
 fn closed_as(rt: &impl Print, room: &[u8], index: &[u8]) -> io::Result<()> {
     let made = front(room, index.len());
-    verdict(rt, b"close P looks", look(made))?;
-    label(rt, b"close P as P")?;
-    flag(rt, same(made, index))?;
-    end(rt)
+    verdict(rt, "close P looks", look(made))?;
+    println!(rt; "close P as P: {}", u32::from(made == index))
 }
 
 // The paper's records, 64 bytes A5 behind them, closed to the paper's index.
@@ -40,45 +37,34 @@ fn paper(rt: &impl Print) -> io::Result<()> {
     let p = PAPER;
     let mut room = [0xA5u8; 143];
     put_records(&mut room);
-    close_in(rt, b"close P", &mut room, 4, 79, &[0, 55])?;
+    close_in(rt, "close P", &mut room, 4, 79, &[0, 55])?;
     closed_as(rt, &room, &p)
 }
 
-// The line of a closing in such a buffer, each time a fresh one.
-fn close_fresh(
+// The line of a closing in such a buffer of N bytes, each time a fresh one: 143, or 110, which ends a byte before the index would.
+fn close_fresh<const N: usize>(
     rt: &impl Print,
-    text: &[u8],
+    text: &str,
     block: u32,
     total: u32,
     starts: &[u32],
-) -> io::Result<()> {
-    let mut room = [0xA5u8; 143];
-    put_records(&mut room);
-    close_in(rt, text, &mut room, block, total, starts)
-}
-
-// The same in a buffer that is cut off a byte before the end of the index.
-fn close_short(
-    rt: &impl Print,
-    text: &[u8],
-    block: u32,
-    total: u32,
-    starts: &[u32],
-) -> io::Result<()> {
-    let mut room = [0xA5u8; 110];
+) -> io::Result<()>
+    requires { N ≤ 143 }
+{
+    let mut room = [0xA5u8; N];
     put_records(&mut room);
     close_in(rt, text, &mut room, block, total, starts)
 }
 
 fn refusals(rt: &impl Print) -> io::Result<()> {
-    close_fresh(rt, b"close no starts", 4, 79, &[])?;
-    close_short(rt, b"close room 110", 4, 79, &[0, 55])?;
-    close_fresh(rt, b"close starts 0 54", 4, 79, &[0, 54])?;
-    close_fresh(rt, b"close starts 1 55", 4, 79, &[1, 55])?;
-    close_fresh(rt, b"close starts 0 80", 4, 79, &[0, 80])?;
-    close_fresh(rt, b"close total 81", 4, 81, &[0, 55])?;
-    close_fresh(rt, b"close total FFFFFFFF", 4, 0xFFFFFFFF, &[0, 55])?;
-    close_fresh(rt, b"close B 129", 129, 79, &[])
+    close_fresh::<143>(rt, "close no starts", 4, 79, &[])?;
+    close_fresh::<110>(rt, "close room 110", 4, 79, &[0, 55])?;
+    close_fresh::<143>(rt, "close starts 0 54", 4, 79, &[0, 54])?;
+    close_fresh::<143>(rt, "close starts 1 55", 4, 79, &[1, 55])?;
+    close_fresh::<143>(rt, "close starts 0 80", 4, 79, &[0, 80])?;
+    close_fresh::<143>(rt, "close total 81", 4, 81, &[0, 55])?;
+    close_fresh::<143>(rt, "close total FFFFFFFF", 4, 0xFFFFFFFF, &[0, 55])?;
+    close_fresh::<143>(rt, "close B 129", 129, 79, &[])
 }
 
 // Records whose second has its bits behind the cut set.
@@ -87,7 +73,7 @@ fn rubbish(rt: &impl Print) -> io::Result<()> {
     let first = put_list(&mut room, 0, 32, 2, 0, &[3, 11, 12, 13, 22]);
     let total = put_list(&mut room, first, 32, 2, 11, &[2, 3, 11, 13, 14, 20, 22, 31]);
     put_bits(&mut room, first, 13, 0x1F);
-    close_in(rt, b"close rubbish", &mut room, 2, total, &[0, first])
+    close_in(rt, "close rubbish", &mut room, 2, total, &[0, first])
 }
 
 // All lines of this part, in their order.

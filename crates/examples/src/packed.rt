@@ -14,7 +14,7 @@ fn sought(rt: &impl Print) -> io::Result<()> {
     let first = put_list(&mut room, 0, 32, 4, 0, &list_0);
     let total = put_list(&mut room, first, 32, 4, 0, &[7]);
     let length = close_lists(&mut room, 32, 4, total, &[0, first]);
-    ask_64(rt, b"7 sought in list 0", front(&room, length), 1, &[0, 1])
+    ask_64(rt, "7 sought in list 0", front(&room, length), 1, &[0, 1])
 }
 
 // Two lists of equal count: the candidates are those of the name that comes first.
@@ -24,10 +24,10 @@ fn ties(rt: &impl Print) -> io::Result<()> {
     let total = put_list(&mut room, first, 32, 1, 0, &[1, 2, 3, 4]);
     let length = close_lists(&mut room, 32, 1, total, &[0, first]);
     let index = front(&room, length);
-    ask_64(rt, b"ties 0 1", index, 1, &[0, 1])?;
-    ask_64(rt, b"ties 1 0", index, 1, &[1, 0])?;
-    costs_64(rt, b"costs ties 0 1", index, 1, &[0, 1])?;
-    costs_64(rt, b"costs ties 1 0", index, 1, &[1, 0])
+    ask_64(rt, "ties 0 1", index, 1, &[0, 1])?;
+    ask_64(rt, "ties 1 0", index, 1, &[1, 0])?;
+    costs_64(rt, "costs ties 0 1", index, 1, &[0, 1])?;
+    costs_64(rt, "costs ties 1 0", index, 1, &[1, 0])
 }
 
 // Three lists whose counts do not rise in the order named: the smallest is tried in the second smallest first.
@@ -42,25 +42,19 @@ fn rising(rt: &impl Print) -> io::Result<()> {
     let total = put_list(&mut room, second, 32, 2, 0, &even);
     let length = close_lists(&mut room, 32, 2, total, &[0, first, second]);
     let index = front(&room, length);
-    ask_64(rt, b"rising counts", index, 1, &[0, 1, 2])?;
-    ask_64(rt, b"rising counts, names 2 1 0", index, 1, &[2, 1, 0])?;
-    costs_64(rt, b"costs rising counts", index, 1, &[0, 1, 2])?;
-    costs_64(
-        rt,
-        b"costs rising counts, names 2 1 0",
-        index,
-        1,
-        &[2, 1, 0],
-    )
+    ask_64(rt, "rising counts", index, 1, &[0, 1, 2])?;
+    ask_64(rt, "rising counts, names 2 1 0", index, 1, &[2, 1, 0])?;
+    costs_64(rt, "costs rising counts", index, 1, &[0, 1, 2])?;
+    costs_64(rt, "costs rising counts, names 2 1 0", index, 1, &[2, 1, 0])
 }
 
 // What every operation on an index with rubbish in list 1 gives.
 fn refused(rt: &impl Print, index: &[u8]) -> io::Result<()> {
-    verdict(rt, b"rubbish behind the cut, look", look(index))?;
-    ask_64(rt, b"rubbish behind the cut", index, 1, &[0, 1])?;
-    count_list(rt, b"rubbish behind the cut, count list 1", index, 1)?;
-    test_slot(rt, b"rubbish behind the cut, test 3 in list 0", index, 0, 3)?;
-    part_of(rt, b"rubbish behind the cut, part of list 1", index, 1)
+    verdict(rt, "rubbish behind the cut, look", look(index))?;
+    ask_64(rt, "rubbish behind the cut", index, 1, &[0, 1])?;
+    count_list(rt, "rubbish behind the cut, count list 1", index, 1)?;
+    test_slot(rt, "rubbish behind the cut, test 3 in list 0", index, 0, 3)?;
+    part_of(rt, "rubbish behind the cut, part of list 1", index, 1)
 }
 
 // List 1's bits behind its cut of 11, in the second of its two bit bytes, are all set. Then list 0's first slot becomes 0, a fault that comes first.
@@ -74,7 +68,7 @@ fn rubbish(rt: &impl Print) -> io::Result<()> {
     put_word(&mut room, 12, 0);
     verdict(
         rt,
-        b"rubbish in list 1, a fault in list 0",
+        "rubbish in list 1, a fault in list 0",
         look(front(&room, length)),
     )
 }

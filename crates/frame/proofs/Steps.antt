@@ -3,46 +3,38 @@ use Prim.Native.Nat.{ℕ, suc, ◌+◌, ◌*◌, ◌-◌, ◌≤◌, ◌<◌}
 use mathlib.Core.Path.{◌≡◌, sym, ap, ◌∙◌}
 use mathlib.Core.Bool.{Bool, true, false}
 use mathlib.Core.List.{List}
+use mathlib.Core.Logic.{◌⊎◌, inl, inr}
+use lib.Dec.{eqb}
 use native.Mathlib.Omega.{arith}
 use lib.ListN.{length, drop}
 use borrow.Author.Tests.{lt-ltb, le-ltb}
 use Rattle.paper.specs.Lists.{same}
-use Rattle.paper.specs.Bytes.{u32_at, part}
+use Rattle.paper.specs.Bytes.{part}
 use Rattle.paper.specs.Record.{record_fault}
 use Rattle.paper.specs.Refusal.{verdict, tag, too_short, fault1, fault2}
-use Rattle.paper.specs.Index.{from_end, start_of, u_of, block_length, k_of, record_in}
-use Rattle.paper.specs.Look.{numbers_fault, frame_fault, list_fault, lists_fault, in_lists}
+use Rattle.paper.specs.Index.{from_end, start_of, block_length, k_of, record_in}
+use Rattle.paper.specs.Look.{numbers_fault, frame_fault, list_fault, lists_fault}
 use Rattle.paper.specs.declared.Verdict.{Verdict}
-use Rattle.laws.proofs.Parts.{length_part, part_end}
+use Rattle.std.specs.List.{ends_with}
+use Rattle.std.proofs.lemmas.Slice.Eq.{slice_eq-Decides}
+use Rattle.std.proofs.lemmas.Bool.Decides.{Decides-eqb}
+use Rattle.laws.proofs.Parts.{length_part}
 use Rattle.laws.proofs.Equals.{same_is}
 use Rattle.laws.proofs.Frames.{Laid, framed, records_within, lists_end, lists_bad, lists_next}
-use Rattle.laws.proofs.Links.{number_links}
+use Rattle.laws.proofs.Links.{frame_links, number_links}
+use Rattle.laws.proofs.Faults.{fault_on}
 
--- a number by its distance from the end
-pub from_back : (bs : List ℕ) (d r : ℕ) → r ≡ u32_at bs (length bs - d) → r ≡ from_end bs d
-unfolding from_end
-from_back bs d r e = e
+-- a start by its distance from the end: in the directory, or behind the last list, where D stands
+pub start_found : (bs : List ℕ) (i k d r : ℕ) → k ≡ from_end bs 12 → (i < k) × (d ≡ 24 + 4 * (k - i)) ⊎ (k ≤ i) × (d ≡ 8) → r ≡ from_end bs d → r ≡ start_of bs i
+unfolding start_of
+start_found bs i k d r is (inl p) e = e ∙ rw (p.1) (let l = p.0 in simp (← is, lt-ltb _ _ l))
+start_found bs i k d r is (inr p) e = e ∙ rw (p.1) (let l = p.0 in simp (← is, le-ltb _ _ l))
 
-module _ (bs : List ℕ) (i k r : ℕ) (is : k ≡ from_end bs 12) where
-  -- a start in the directory
-  pub start_inside : i < k → r ≡ from_end bs (24 + 4 * (k - i)) → r ≡ start_of bs i
-  unfolding start_of
-  start_inside l e = e ∙ simp (← is, lt-ltb _ _ l)
-
-  -- behind the last list: D
-  pub start_past : k ≤ i → r ≡ from_end bs 8 → r ≡ start_of bs i
-  unfolding start_of
-  start_past l e = e ∙ simp (← is, le-ltb _ _ l)
-
--- the tag: the last four bytes
-last_four : (bs : List ℕ) → 24 ≤ length bs → part bs (length bs - 4) (length bs - 4 + 4) ≡ drop (length bs - 4) bs
-last_four bs l = let e : length bs - 4 + 4 ≡ length bs = omega arith in rw e (part_end bs (length bs - 4))
-
-module _ (r : Bool) (bs : List ℕ) (l : 24 ≤ length bs) where
-  -- they are held against it
-  pub tag_is : (r ≡ true → part bs (length bs - 4) (length bs - 4 + 4) ≡ tag) → (part bs (length bs - 4) (length bs - 4 + 4) ≡ tag → r ≡ true)
-      → r ≡ same (drop (length bs - 4) bs) tag
-  tag_is f g = same_is r _ tag f g ∙ ap (λ (l : List ℕ). same l tag) (last_four bs l)
+-- the tag: the last four bytes are held against it
+pub tag_ends : (r : Bool) (bs : List ℕ) → r ≡ ends_with eqb bs tag → r ≡ same (drop (length bs - 4) bs) tag
+tag_ends r bs is =
+    let d = slice_eq-Decides Decides-eqb tag (drop (length bs - 4) bs) r is in
+    same_is r (drop (length bs - 4) bs) tag (λ e. sym (d.0 e)) (λ e. d.1 (sym e))
 
 -- records that would be too short: k of them are left, from record i on
 module _ (start : ℕ → ℕ) (k i : ℕ) (t : Bool) (same : too_short start (k - i) i ≡ t) where
@@ -77,12 +69,15 @@ pub not_same : (a b : ℕ) → b < a → ¬ (a ≡ b)
 not_same a b l = omega arith
 
 -- the links of 3 to 5
-pub ruleset numbers = (number_links, not_same)
+pub ruleset numbers = (number_links, not_same, fault_on)
 
 -- the whole frame
-pub frame : (bs : List ℕ) (r : Verdict) → r ≡ fault1 (length bs) (fault2 bs (numbers_fault bs (length bs))) → r ≡ frame_fault bs (length bs)
+pub frame_is : (bs : List ℕ) (r : Verdict) → r ≡ fault1 (length bs) (fault2 bs (numbers_fault bs (length bs))) → r ≡ frame_fault bs (length bs)
 unfolding frame_fault
-frame bs r e = e
+frame_is bs r e = e
+
+-- its links
+pub ruleset frame = (frame_links, frame_is)
 
 -- the lists: k of them lie in bs, those from list i on are left, and the next record starts at from
 pub record Head (bs : List ℕ) (start : ℕ → ℕ) (u B k : ℕ) (t : Verdict) (from i : ℕ) : Type 0 where
@@ -117,9 +112,13 @@ module _ (bs : List ℕ) (ok : (frame_fault bs (length bs)).number ≡ 0) where
   pub block_some : (B : ℕ) → B ≡ block_length bs → 0 < B
   block_some B is = rw is (framed bs ok).some_b
 
-  -- all its lists are left
-  pub lists_begin : (u B k : ℕ) → u ≡ u_of bs → B ≡ block_length bs → k ≡ k_of bs → Head bs (start_of bs) u B k (in_lists bs) 0 0
-  lists_begin u B k isU is_b isK = rw (isU, is_b, isK) (all_left bs (start_of bs) (u_of bs) (block_length bs) (k_of bs) (records_within bs (framed bs ok)))
+  -- its records lie one behind the other
+  pub records_lie : Laid (length bs) (start_of bs) (k_of bs)
+  records_lie = records_within bs (framed bs ok)
+
+  -- and they are few
+  pub lists_few : k_of bs ≤ 4096
+  lists_few = (framed bs ok).most_k
 
 module _ {bs : List ℕ} {start : ℕ → ℕ} {u B k : ℕ} {t : Verdict} {from i : ℕ} (h : Head bs start u B k t from i) where
   -- no list is left
@@ -166,3 +165,9 @@ module _ {bs : List ℕ} {start : ℕ → ℕ} {u B k : ℕ} {t : Verdict} {from
             at = isT;
             same = rw (← m) (sym (lists_next (list_fault u B) bs start (k - i) i (omega arith) (sym fault_is ∙ z)) ∙ h.same);
           }
+
+-- all of these
+pub ruleset lists = (all_left, lists_done, part_start, part_end_in, record_long, fault_of_lists, lists_turn)
+
+-- of an index that passes 1 to 5
+pub ruleset accepted = (directory_there, u_there, b_there, k_there, block_some, records_lie, lists_few)

@@ -8,8 +8,10 @@ use native.Mathlib.Decide.{dec_lt}
 use native.Mathlib.Omega.{arith}
 use lib.Dec.{eqb}
 use lib.Count.{count_leading_zeros, leading_top}
-use lib.Pow.{pow_pos, shr-shr, pow-add, pow_mono, mod-mod-pow, field, low, high, shl-shr}
-use lib.ListN.{length, set, take, length-set, length-take, length-append}
+use lib.Pow.{shr-shr, pow-add, pow_mono, mod-mod-pow, field, low, high, shl-shr}
+use lib.ListN.{length, get_or, set, take, length-set, length-take, length-append}
+use Rattle.std.specs.Int.{w64, to_be_bytes, from_be_bytes}
+use Rattle.std.proofs.lemmas.Nat.{be_bytes_8}
 use lib.Seq.{take-set-le}
 use Rattle.paper.specs.Bytes.{byte_at}
 use Rattle.paper.specs.Lists.{keep, up_from, bit_of}
@@ -99,57 +101,45 @@ module _ (bits : List ℕ) (cut : ℕ) (t : List ℕ) (size : ℕ) (s : List ℕ
 abbrev pub last_bits : List ℕ → ℕ → ℕ → List ℕ
 last_bits bits end m = keep (bit_at bits) (up_from (end + 1 - m) m)
 
--- the first 64 of them, put by r places into s'
-pub bits_word : (bits : List ℕ) (cut : ℕ) (t : List ℕ) (size : ℕ) (s : List ℕ) (x w : ℕ) → Bits bits cut t size s x w → x + 63 ≤ cut → (r : ℕ) (s' : List ℕ) → length s' ≡ length s
-    → Front (take w s ++ keep (bit_at bits) (up_from x 64)) r s' → Bits bits cut t size s' (x + 64) r
-bits_word bits cut t size s x w h l r s' e f =
-    let k = keep (bit_at bits) (up_from x 64) in
+-- the first 64 of the slots from x on, and then the others
+first_word : (bits : List ℕ) (cut x : ℕ) → x + 63 ≤ cut → bits_from bits cut x ≡ keep (bit_at bits) (up_from x 64) ++ bits_from bits cut (x + 64)
+first_word bits cut x l =
     let i : cut + 1 - x ≡ 64 + (cut + 1 - (x + 64)) = omega arith in
-    let j : bits_from bits cut x ≡ k ++ bits_from bits cut (x + 64) = ap (λ (m : ℕ). keep (bit_at bits) (up_from x m)) i ∙ ap (keep (bit_at bits)) (up_join x 64 (cut + 1 - (x + 64))) ∙ keep_join (bit_at bits) (up_from x 64) _ in
-    let a = ap length j ∙ length-append k (bits_from bits cut (x + 64)) in
-    let b = length-take r s' in
-    let c = ap length f.are ∙ length-append (take w s) k in
-    let d = length-take w s in
-    record {
-      some = omega (arith, h.some);
-      fill = record {
-        long = e ∙ h.fill.long;
-        room = omega (arith, f.few, h.fill.room, h.fill.long, a, b, c, d);
-        same = ap (λ (xs : List ℕ). xs ++ bits_from bits cut (x + 64)) f.are ∙ append_assoc (take w s) k (bits_from bits cut (x + 64)) ∙ rw j at h.fill.same;
-      };
-    }
+    ap (λ (m : ℕ). keep (bit_at bits) (up_from x m)) i ∙ ap (keep (bit_at bits)) (up_join x 64 (cut + 1 - (x + 64))) ∙ keep_join (bit_at bits) (up_from x 64) _
 
--- there is room for them
-pub word_room : (bits : List ℕ) (cut : ℕ) (t : List ℕ) (size : ℕ) (s : List ℕ) (x w : ℕ) → Bits bits cut t size s x w → x + 63 ≤ cut → w + length (keep (bit_at bits) (up_from x 64)) ≤ length s
-word_room bits cut t size s x w h l =
-    let k = keep (bit_at bits) (up_from x 64) in
-    let i : cut + 1 - x ≡ 64 + (cut + 1 - (x + 64)) = omega arith in
-    let j : bits_from bits cut x ≡ k ++ bits_from bits cut (x + 64) = ap (λ (m : ℕ). keep (bit_at bits) (up_from x m)) i ∙ ap (keep (bit_at bits)) (up_join x 64 (cut + 1 - (x + 64))) ∙ keep_join (bit_at bits) (up_from x 64) _ in
-    omega (arith, h.fill.room, h.fill.long, ap length j ∙ length-append k (bits_from bits cut (x + 64)))
+-- word n of the bits, whose first slot is x
+module _ (bits : List ℕ) (cut : ℕ) (t : List ℕ) (size : ℕ) (s : List ℕ) (n w : ℕ) (h : Bits bits cut t size s (8 * (8 * n) + 1) w) where
+  abbrev x : ℕ
+  x = 8 * (8 * n) + 1
 
--- what holds at the head of the loop over words: x begins a byte
-pub record Words (bits : List ℕ) (cut : ℕ) (t : List ℕ) (size : ℕ) (s : List ℕ) (x w : ℕ) : Type 0 where
-  pub begins : 8 * (x / 8) + 1 ≡ x
-  pub near : x ≤ cut + 1
-  pub all : Bits bits cut t size s x w
+  -- no word is left
+  pub words_end : cut / 64 ≤ n → n ≤ cut / 64 → Bits bits cut t size s (64 * (cut / 64) + 1) w
+  words_end a b = let e : 8 * (8 * n) + 1 ≡ 64 * (cut / 64) + 1 = omega arith in rw e at h
 
--- it begins at slot 1
-pub words_begin : (bits : List ℕ) (cut : ℕ) (s : List ℕ) → length (slots_to_cut cut bits) ≤ length s → Words bits cut (slots_to_cut cut bits) (length s) s 1 0
-words_begin bits cut s l = record { begins = refl; near = omega arith; all = bits_begin bits cut s l }
+  module _ (l : n < cut / 64) where
+    -- there is room for its slots
+    pub words_room : w + length (keep (bit_at bits) (up_from x 64)) ≤ length s
+    words_room = omega (arith, h.fill.room, h.fill.long, ap length (first_word bits cut x (omega arith)) ∙ length-append (keep (bit_at bits) (up_from x 64)) (bits_from bits cut (x + 64)))
 
-module _ (bits : List ℕ) (cut : ℕ) (t : List ℕ) (size : ℕ) (s : List ℕ) (x w : ℕ) (h : Words bits cut t size s x w) (l : x + 63 ≤ cut) where
-  -- there is room for the slots of eight bytes
-  pub words_room : w + length (keep (bit_at bits) (up_from (8 * (x / 8) + 1) 64)) ≤ length s
-  words_room = rw h.begins (word_room bits cut t size s x w h.all l)
-
-  -- and they are put
-  pub words_turn : (r : ℕ) (s' : List ℕ) → length s' ≡ length s → Front (take w s ++ keep (bit_at bits) (up_from (8 * (x / 8) + 1) 64)) r s' → Words bits cut t size s' (x + 64) r
-  words_turn r s' e f =
-      let b = h.begins in
-      record { begins = omega arith; near = omega arith; all = bits_word bits cut t size s x w h.all l r s' e (rw b at f) }
-
--- all of these
-pub ruleset bit_turns = (bits_begin, bits_end, bits_full, bit_stored)
+    -- and they are put by r places into s'
+    pub words_turn : (r : ℕ) (s' : List ℕ) → length s' ≡ length s → Front (take w s ++ keep (bit_at bits) (up_from x 64)) r s' → Bits bits cut t size s' (8 * (8 * (n + 1)) + 1) r
+    words_turn r s' e f =
+        let k = keep (bit_at bits) (up_from x 64) in
+        let j = first_word bits cut x (omega arith) in
+        let i : 8 * (8 * (n + 1)) + 1 ≡ x + 64 = omega arith in
+        let a = ap length j ∙ length-append k (bits_from bits cut (x + 64)) in
+        let b = length-take r s' in
+        let c = ap length f.are ∙ length-append (take w s) k in
+        let d = length-take w s in
+        rw i
+        (record {
+          some = omega arith;
+          fill = record {
+            long = e ∙ h.fill.long;
+            room = omega (arith, f.few, h.fill.room, h.fill.long, a, b, c, d);
+            same = ap (λ (xs : List ℕ). xs ++ bits_from bits cut (x + 64)) f.are ∙ append_assoc (take w s) k (bits_from bits cut (x + 64)) ∙ rw j at h.fill.same;
+          };
+        })
 
 -- the digit j is set and none above it: its slot is the next one
 next_is : (bits : List ℕ) (end j m : ℕ) → j < m → m ≤ end → ((e : ℕ) → j < e → e < m → bit_at bits (end - e) ≡ false) → bit_at bits (end - j) ≡ true
@@ -180,59 +170,39 @@ same_digit v j e l =
     let m : v % 2 ^ j % 2 ^ (1 + e) ≡ v % 2 ^ (1 + e) = rw i at (mod-mod-pow v (j - (1 + e)) (1 + e)) in
     sym (field v 1 e) ∙ ap (λ (n : ℕ). n / 2 ^ e) (sym m) ∙ field (v % 2 ^ j) 1 e
 
--- eight bytes as one number, the first the highest: each of them
-module _ (b₀ b₁ b₂ b₃ b₄ b₅ b₆ b₇ w : ℕ) (l₀ : b₀ < 256) (l₁ : b₁ < 256) (l₂ : b₂ < 256) (l₃ : b₃ < 256) (l₄ : b₄ < 256) (l₅ : b₅ < 256) (l₆ : b₆ < 256) (l₇ : b₇ < 256)
-    (is : w ≡ 4294967296 * (16777216 * b₀ + 65536 * b₁ + 256 * b₂ + b₃) + (16777216 * b₄ + 65536 * b₅ + 256 * b₆ + b₇)) where
-  low_end : w < 18446744073709551616
-  low_end = omega arith
-
-  byte₇ : w % 256 ≡ b₇
-  byte₇ = omega arith
-
-  byte₆ : w / 256 % 256 ≡ b₆
-  byte₆ = let d : w / 256 ≡ (((((b₀ * 256 + b₁) * 256 + b₂) * 256 + b₃) * 256 + b₄) * 256 + b₅) * 256 + b₆ = omega arith in rw d (omega arith)
-
-  byte₅ : w / 65536 % 256 ≡ b₅
-  byte₅ = let d : w / 65536 ≡ ((((b₀ * 256 + b₁) * 256 + b₂) * 256 + b₃) * 256 + b₄) * 256 + b₅ = omega arith in rw d (omega arith)
-
-  byte₄ : w / 16777216 % 256 ≡ b₄
-  byte₄ = let d : w / 16777216 ≡ (((b₀ * 256 + b₁) * 256 + b₂) * 256 + b₃) * 256 + b₄ = omega arith in rw d (omega arith)
-
-  byte₃ : w / 4294967296 % 256 ≡ b₃
-  byte₃ = let d : w / 4294967296 ≡ ((b₀ * 256 + b₁) * 256 + b₂) * 256 + b₃ = omega arith in rw d (omega arith)
-
-  byte₂ : w / 1099511627776 % 256 ≡ b₂
-  byte₂ = let d : w / 1099511627776 ≡ (b₀ * 256 + b₁) * 256 + b₂ = omega arith in rw d (omega arith)
-
-  byte₁ : w / 281474976710656 % 256 ≡ b₁
-  byte₁ = let d : w / 281474976710656 ≡ b₀ * 256 + b₁ = omega arith in rw d (omega arith)
-
-  byte₀ : w / 72057594037927936 % 256 ≡ b₀
-  byte₀ = let d : w / 72057594037927936 ≡ b₀ = omega arith in rw d (omega arith)
-
--- the bits of eight bytes are the digits of that number
+-- eight bytes as one number, the first the highest: its digits are their bits
 module _ (bits : List ℕ) (all : (i : ℕ) → byte_at bits i < 256) (at w : ℕ) where
-  abbrev four_at : ℕ → ℕ
-  four_at i = 16777216 * byte_at bits i + 65536 * byte_at bits (i + 1) + 256 * byte_at bits (i + 2) + byte_at bits (i + 3)
+  abbrev eight : List ℕ
+  eight = byte_at bits at ∷ byte_at bits (at + 1) ∷ byte_at bits (at + 2) ∷ byte_at bits (at + 3) ∷ byte_at bits (at + 4) ∷ byte_at bits (at + 5) ∷ byte_at bits (at + 6) ∷ byte_at bits (at + 7) ∷ []
 
-  module _ (is : w ≡ 4294967296 * four_at at + four_at (at + 4)) where
-    as_eight : w ≡ 4294967296 * (16777216 * byte_at bits at + 65536 * byte_at bits (at + 1) + 256 * byte_at bits (at + 2) + byte_at bits (at + 3)) + (16777216 * byte_at bits (at + 4) + 65536 * byte_at bits (at + 5) + 256 * byte_at bits (at + 6) + byte_at bits (at + 7))
-    as_eight =
-        let i : at + 4 + 1 ≡ at + 5 = omega arith in
-        let j : at + 4 + 2 ≡ at + 6 = omega arith in
-        let k : at + 4 + 3 ≡ at + 7 = omega arith in
-        rw (i, j, k) at is
+  module _ (is : w ≡ from_be_bytes w64 eight) where
+    small : (i : ℕ) → get_or eight i 0 < 256
+    small zero = all at
+    small (suc zero) = all (at + 1)
+    small (suc (suc zero)) = all (at + 2)
+    small (suc (suc (suc zero))) = all (at + 3)
+    small (suc (suc (suc (suc zero)))) = all (at + 4)
+    small (suc (suc (suc (suc (suc zero))))) = all (at + 5)
+    small (suc (suc (suc (suc (suc (suc zero)))))) = all (at + 6)
+    small (suc (suc (suc (suc (suc (suc (suc zero))))))) = all (at + 7)
+    small (suc (suc (suc (suc (suc (suc (suc (suc i)))))))) = omega arith
+
+    low_end : w < 18446744073709551616
+    low_end = omega (arith, is, small 0, small 1, small 2, small 3, small 4, small 5, small 6, small 7)
+
+    bytes : to_be_bytes w64 w ≡ eight
+    bytes = be_bytes_8 eight w refl small is
 
     -- each byte, by its number from the last
     which : (q : ℕ) → q < 8 → w / 2 ^ (8 * q) % 256 ≡ byte_at bits (at + (7 - q))
-    which zero l = let z : w / 1 ≡ w = omega arith in ap (λ (n : ℕ). n % 256) z ∙ byte₇ (byte_at bits at) (byte_at bits (at + 1)) (byte_at bits (at + 2)) (byte_at bits (at + 3)) (byte_at bits (at + 4)) (byte_at bits (at + 5)) (byte_at bits (at + 6)) (byte_at bits (at + 7)) w (all at) (all (at + 1)) (all (at + 2)) (all (at + 3)) (all (at + 4)) (all (at + 5)) (all (at + 6)) (all (at + 7)) as_eight
-    which (suc zero) l = byte₆ (byte_at bits at) (byte_at bits (at + 1)) (byte_at bits (at + 2)) (byte_at bits (at + 3)) (byte_at bits (at + 4)) (byte_at bits (at + 5)) (byte_at bits (at + 6)) (byte_at bits (at + 7)) w (all at) (all (at + 1)) (all (at + 2)) (all (at + 3)) (all (at + 4)) (all (at + 5)) (all (at + 6)) (all (at + 7)) as_eight
-    which (suc (suc zero)) l = byte₅ (byte_at bits at) (byte_at bits (at + 1)) (byte_at bits (at + 2)) (byte_at bits (at + 3)) (byte_at bits (at + 4)) (byte_at bits (at + 5)) (byte_at bits (at + 6)) (byte_at bits (at + 7)) w (all at) (all (at + 1)) (all (at + 2)) (all (at + 3)) (all (at + 4)) (all (at + 5)) (all (at + 6)) (all (at + 7)) as_eight
-    which (suc (suc (suc zero))) l = byte₄ (byte_at bits at) (byte_at bits (at + 1)) (byte_at bits (at + 2)) (byte_at bits (at + 3)) (byte_at bits (at + 4)) (byte_at bits (at + 5)) (byte_at bits (at + 6)) (byte_at bits (at + 7)) w (all at) (all (at + 1)) (all (at + 2)) (all (at + 3)) (all (at + 4)) (all (at + 5)) (all (at + 6)) (all (at + 7)) as_eight
-    which (suc (suc (suc (suc zero)))) l = byte₃ (byte_at bits at) (byte_at bits (at + 1)) (byte_at bits (at + 2)) (byte_at bits (at + 3)) (byte_at bits (at + 4)) (byte_at bits (at + 5)) (byte_at bits (at + 6)) (byte_at bits (at + 7)) w (all at) (all (at + 1)) (all (at + 2)) (all (at + 3)) (all (at + 4)) (all (at + 5)) (all (at + 6)) (all (at + 7)) as_eight
-    which (suc (suc (suc (suc (suc zero))))) l = byte₂ (byte_at bits at) (byte_at bits (at + 1)) (byte_at bits (at + 2)) (byte_at bits (at + 3)) (byte_at bits (at + 4)) (byte_at bits (at + 5)) (byte_at bits (at + 6)) (byte_at bits (at + 7)) w (all at) (all (at + 1)) (all (at + 2)) (all (at + 3)) (all (at + 4)) (all (at + 5)) (all (at + 6)) (all (at + 7)) as_eight
-    which (suc (suc (suc (suc (suc (suc zero)))))) l = byte₁ (byte_at bits at) (byte_at bits (at + 1)) (byte_at bits (at + 2)) (byte_at bits (at + 3)) (byte_at bits (at + 4)) (byte_at bits (at + 5)) (byte_at bits (at + 6)) (byte_at bits (at + 7)) w (all at) (all (at + 1)) (all (at + 2)) (all (at + 3)) (all (at + 4)) (all (at + 5)) (all (at + 6)) (all (at + 7)) as_eight
-    which (suc (suc (suc (suc (suc (suc (suc zero))))))) l = let z : at + 0 ≡ at = omega arith in byte₀ (byte_at bits at) (byte_at bits (at + 1)) (byte_at bits (at + 2)) (byte_at bits (at + 3)) (byte_at bits (at + 4)) (byte_at bits (at + 5)) (byte_at bits (at + 6)) (byte_at bits (at + 7)) w (all at) (all (at + 1)) (all (at + 2)) (all (at + 3)) (all (at + 4)) (all (at + 5)) (all (at + 6)) (all (at + 7)) as_eight ∙ ap (byte_at bits) (sym z)
+    which zero l = let z : w / 1 ≡ w = omega arith in ap (λ (n : ℕ). n % 256) z ∙ ap (λ (l : List ℕ). get_or l 7 0) bytes
+    which (suc zero) l = ap (λ (l : List ℕ). get_or l 6 0) bytes
+    which (suc (suc zero)) l = ap (λ (l : List ℕ). get_or l 5 0) bytes
+    which (suc (suc (suc zero))) l = ap (λ (l : List ℕ). get_or l 4 0) bytes
+    which (suc (suc (suc (suc zero)))) l = ap (λ (l : List ℕ). get_or l 3 0) bytes
+    which (suc (suc (suc (suc (suc zero))))) l = ap (λ (l : List ℕ). get_or l 2 0) bytes
+    which (suc (suc (suc (suc (suc (suc zero)))))) l = ap (λ (l : List ℕ). get_or l 1 0) bytes
+    which (suc (suc (suc (suc (suc (suc (suc zero))))))) l = let z : at + 0 ≡ at = omega arith in ap (λ (l : List ℕ). get_or l 0 0) bytes ∙ ap (byte_at bits) (sym z)
     which (suc (suc (suc (suc (suc (suc (suc (suc q)))))))) l = absurd (omega arith)
 
     -- each digit
@@ -249,7 +219,7 @@ module _ (bits : List ℕ) (all : (i : ℕ) → byte_at bits i < 256) (at w : �
     word_shown =
         record {
           in_reach = omega arith;
-          small = low_end (byte_at bits at) (byte_at bits (at + 1)) (byte_at bits (at + 2)) (byte_at bits (at + 3)) (byte_at bits (at + 4)) (byte_at bits (at + 5)) (byte_at bits (at + 6)) (byte_at bits (at + 7)) w (all at) (all (at + 1)) (all (at + 2)) (all (at + 3)) (all (at + 4)) (all (at + 5)) (all (at + 6)) (all (at + 7)) as_eight;
+          small = low_end;
           is = λ e l.
               let i : (8 * at + 64 - e - 1) / 8 ≡ at + (7 - e / 8) = omega arith in
               let j : 7 - (8 * at + 64 - e - 1) % 8 ≡ e % 8 = omega arith in
@@ -317,10 +287,6 @@ module _ (bits : List ℕ) (end : ℕ) (t : List ℕ) (size : ℕ) (s : List ℕ
         inside : (j : ℕ) → 2 ^ j ≤ v → j < h.m
         inside j l = elim (dec_lt j h.m) [ yes q ↦ q | no q ↦ let p : 2 ^ h.m ≤ 2 ^ j = pow_mono {i = h.m} {j = j} (omega arith) in absurd (omega (arith, h.shown.small)) ]
 
-    -- the zeros before it
-    pub zeros_few : z ≤ 63
-    zeros_few = omega (arith, top.sum)
-
     -- the highest of 64 digits, moved down by them, is this one
     high_is : 9223372036854775808 / 2 ^ z ≡ 2 ^ top.j
     high_is =
@@ -330,9 +296,6 @@ module _ (bits : List ℕ) (end : ℕ) (t : List ℕ) (size : ℕ) (s : List ℕ
 
     pub high_fits : 9223372036854775808 / 2 ^ z ≤ v
     high_fits = rw high_is top.from
-
-    pub word_less : v - 9223372036854775808 / 2 ^ z < v
-    word_less = let p = pow_pos top.j in rw high_is (omega (arith, top.from))
 
     -- its slot is the next one
     next_slot : last_bits bits end h.m ≡ (end - top.j) ∷ last_bits bits end top.j

@@ -54,9 +54,9 @@ unfolding fault12
 room_passed room need rest e = let p = failed (verdict 12 need) (one_up 11) rest (ltb room need) e in (ltb-false _ _ p.0, p.1)
 
 -- k, where 4 by itself finds no fault in it: there are not too many lists
-pub k_within : (k f : ℕ) → verdict f 0 ≡ fault4k k accepted → f ≡ 0 → k ≤ 4096
+pub k_within : (k : ℕ) → accepted ≡ fault4k k accepted → k ≤ 4096
 unfolding fault4k
-k_within k f judged ok = (within_passed 4 (one_up 3) accepted 1 4096 k (sym (ap (λ (v : Verdict). v.number) judged) ∙ ok)).1
+k_within k judged = (within_passed 4 (one_up 3) accepted 1 4096 k (sym (ap (λ (v : Verdict). v.number) judged))).1
 
 -- no record is too short: the starts rise by 12 or more
 either : (s t : Bool) → (s || t) ≡ false → (s ≡ false) × (t ≡ false)

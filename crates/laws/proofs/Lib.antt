@@ -23,3 +23,4 @@ pub mod Orders
 pub mod Questions
 pub mod Places
 pub mod Searches
+pub mod Faults

@@ -10,7 +10,10 @@ use lib.ListN.{length, drop}
 use borrow.Author.Tests.{lt-ltb, le-ltb, eq-eqb, ne_eqb}
 use Rattle.paper.specs.Lists.{pick, same, leading}
 use Rattle.paper.specs.Refusal.{verdict, accepted, within, tag, good_slots, too_short, starts_fault, fault1, fault2, fault3, fault4, fault4k, fault5, fault10, fault11, fault12, fault13, fault13n, fault14, fault15, fault16}
+use Rattle.paper.specs.Fault.{number_of}
 use Rattle.paper.specs.declared.Verdict.{Verdict}
+use Rattle.paper.specs.declared.refusal.Fault.{Fault}
+use Rattle.laws.proofs.Faults.{no_zero}
 
 -- x in lo..hi
 module _ (lo hi x : ℕ) (v rest : Verdict) where
@@ -210,15 +213,15 @@ module _ (rest : Verdict) where
           unfolding fault4
           four_within m r e = between 1 1048576 u _ _ g l _ (between 1 128 B _ _ h m r e)
 
-  -- 4 of u and B, where f tells how they were judged by themselves
-  module _ (u B f x y : ℕ) (judged : verdict f 0 ≡ fault4 x y accepted) (isU : x ≡ u) (is_b : y ≡ B) where
+  -- 4 of u and B, where they were judged by themselves
+  module _ (u B x y : ℕ) (isU : x ≡ u) (is_b : y ≡ B) where
     -- they are refused
-    pub four_bad : ¬ (f ≡ 0) → verdict f 0 ≡ fault4 u B rest
-    four_bad n = rw (← isU, ← is_b) (sym (link_bad (fault4 x y) (link_4 x y) (verdict f 0) judged rest n))
+    pub four_bad : (f : Fault) → verdict (number_of f) 0 ≡ fault4 x y accepted → verdict (number_of f) 0 ≡ fault4 u B rest
+    four_bad f judged = rw (← isU, ← is_b) (sym (link_bad (fault4 x y) (link_4 x y) _ judged rest (no_zero f)))
 
     -- they lie within their bounds
-    pub four : f ≡ 0 → (r : Verdict) → r ≡ rest → r ≡ fault4 u B rest
-    four z r e = e ∙ rw (← isU, ← is_b) (sym (link_good (fault4 x y) (link_4 x y) (verdict f 0) judged rest z))
+    pub four : accepted ≡ fault4 x y accepted → (r : Verdict) → r ≡ rest → r ≡ fault4 u B rest
+    four judged r e = e ∙ rw (← isU, ← is_b) (sym (link_good (fault4 x y) (link_4 x y) _ judged rest refl))
 
   module _ (k : ℕ) where
     -- 4: there is no list
@@ -237,15 +240,15 @@ module _ (rest : Verdict) where
       unfolding fault4k
       four_k_within l r e = between 1 4096 k _ _ g l r e
 
-  -- 4 of k, where f tells how it was judged by itself
-  module _ (k f x : ℕ) (judged : verdict f 0 ≡ fault4k x accepted) (is : x ≡ k) where
+  -- 4 of k, where it was judged by itself
+  module _ (k x : ℕ) (is : x ≡ k) where
     -- it is refused
-    pub four_k_bad : ¬ (f ≡ 0) → verdict f 0 ≡ fault4k k rest
-    four_k_bad n = rw (← is) (sym (link_bad (fault4k x) (link_4k x) (verdict f 0) judged rest n))
+    pub four_k_bad : (f : Fault) → verdict (number_of f) 0 ≡ fault4k x accepted → verdict (number_of f) 0 ≡ fault4k k rest
+    four_k_bad f judged = rw (← is) (sym (link_bad (fault4k x) (link_4k x) _ judged rest (no_zero f)))
 
     -- it lies within its bounds
-    pub four_k : f ≡ 0 → (r : Verdict) → r ≡ rest → r ≡ fault4k k rest
-    four_k z r e = e ∙ rw (← is) (sym (link_good (fault4k x) (link_4k x) (verdict f 0) judged rest z))
+    pub four_k : accepted ≡ fault4k x accepted → (r : Verdict) → r ≡ rest → r ≡ fault4k k rest
+    four_k judged r e = e ∙ rw (← is) (sym (link_good (fault4k x) (link_4k x) _ judged rest refl))
 
   module _ (size D k : ℕ) (start : ℕ → ℕ) (x y : ℕ) (isD : x ≡ D) (isK : y ≡ k) where
     -- 5: the parts do not make up the length
@@ -302,6 +305,14 @@ module _ (rest : Verdict) where
     pub fourteen : way ≤ 1 → (r : Verdict) → r ≡ rest → r ≡ fault14 way rest
     unfolding fault14
     fourteen l r e = e ∙ simp (le-ltb _ _ l)
+
+    -- where it was judged by itself, it is refused
+    pub fourteen_bad : (f : Fault) → verdict (number_of f) 0 ≡ fault14 way accepted → verdict (number_of f) 0 ≡ fault14 way rest
+    fourteen_bad f judged = sym (link_bad (fault14 way) (link_14 way) _ judged rest (no_zero f))
+
+    -- or known
+    pub fourteen_good : accepted ≡ fault14 way accepted → (r : Verdict) → r ≡ rest → r ≡ fault14 way rest
+    fourteen_good judged r e = e ∙ sym (link_good (fault14 way) (link_14 way) _ judged rest refl)
 
   module _ (names : List ℕ) where
     -- 10: no name
@@ -390,8 +401,11 @@ pub ruleset number_links = (three_other, three, four_bad, four, four_k_bad, four
 -- of the starts
 pub ruleset start_links = (five_first, five_short, five_starts)
 
+-- of the way by itself
+pub ruleset way_links = (fourteen_other, fourteen)
+
 -- of the way and the names of a question
-pub ruleset name_links = (fourteen_other, fourteen, ten_none, ten_many, ten, eleven_bad, eleven)
+pub ruleset name_links = (fourteen_bad, fourteen_good, ten_none, ten_many, ten, eleven_bad, eleven)
 
 -- of a record to be written, up to its room
 pub ruleset write_links = (four_bad, four, fifteen_above, fifteen, thirteen_bad, thirteen)

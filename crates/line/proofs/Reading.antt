@@ -7,20 +7,11 @@ use mathlib.Core.List.{List, []}
 use native.Mathlib.Decide.{dec_lt}
 use native.Mathlib.Omega.{arith}
 use lib.ListN.{length, drop}
-use lib.Dec.{eqb}
-use borrow.Author.Tests.{lt-ltb, le-ltb, le-leb, lt-leb, eq-eqb, ne_eqb}
+use borrow.Author.Tests.{lt-ltb, le-ltb, le-leb, lt-leb}
 use Rattle.paper.specs.Bytes.{byte_at}
 use Rattle.paper.specs.Line.{is_parting, also, read_numbers}
 use Rattle.laws.proofs.Parts.{front, nothing}
 use Rattle.line.specs.OneNumber.{Begins}
-
--- a byte that is tested for a space first
-pub is_space : (b : ℕ) → b ≡ 0x20 → eqb b 0x20 ≡ is_parting b
-is_space b e = rw (eq-eqb b 0x20 e)
-
--- and then for the end of a line
-pub is_no_space : (b : ℕ) → ¬ (b ≡ 0x20) → eqb b 0x0a ≡ is_parting b
-is_no_space b e = rw (ne_eqb b 0x20 e)
 
 -- what stands at position i of a text
 module _ (text : List ℕ) (i : ℕ) where

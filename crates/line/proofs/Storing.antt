@@ -12,17 +12,15 @@ use borrow.Author.Tests.{lt-ltb, le-ltb}
 use Rattle.paper.specs.Bytes.{byte_at}
 use Rattle.paper.specs.Line.{is_parting, also, read_numbers, as_line, read_line}
 use Rattle.laws.proofs.Stores.{sets_front}
-use Rattle.line.specs.declared.Numbers.{Numbers}
-use Rattle.line.specs.declared.Found.{Found}
-use Rattle.line.specs.declared.Found.TheVariants.{Number, Bad}
-use Rattle.line.specs.Numbers.{zeros, numbers_of, MeetsLine}
+use Rattle.std.proofs.Common as rust
+use Rattle.line.specs.Numbers.{zeros, numbers_of}
 use Rattle.line.specs.OneNumber.{Begins, as_numbers, Beyond}
 use Rattle.line.proofs.Reading.{end_outside}
 
 -- the numbers that are left, behind the n that are stored; nothing at all where the text turns out to be no such text
-abbrev filled : List ℕ → ℕ → Option (List ℕ) → Numbers
-filled values n none = record { many = 0; values = zeros }
-filled values n (some vs) = record { many = n + length vs; values = sets values n vs }
+abbrev filled : List ℕ → ℕ → Option (List ℕ) → ℕ × List ℕ
+filled values n none = (0, zeros)
+filled values n (some vs) = (n + length vs, sets values n vs)
 
 -- one of them is stored
 one_stored : (values : List ℕ) (n v : ℕ) (left : Option (List ℕ)) → filled (set values n v) (n + 1) left ≡ filled values n (also v left)
@@ -66,7 +64,7 @@ unfolding zeros
 stored_front vs l = sets_front vs (replicate 128 0) l ∙ ap (λ (l : List ℕ). vs ++ l) (zeros_left (length vs) 128)
 
 -- numbers told are those of the line, where the numbers are few enough
-meets : (text : List ℕ) (r : Numbers) → length text ≤ 256 → r.many ≤ 128 → r ≡ filled zeros 0 (read_numbers text false 0) → MeetsLine text r
+meets : (text : List ℕ) (r : ℕ × List ℕ) → length text ≤ 256 → r.0 ≤ 128 → r ≡ filled zeros 0 (read_numbers text false 0) → r ≡ numbers_of (read_line text)
 unfolding read_line
 meets text r l few e = rw (le-ltb 256 (length text) l) (go (read_numbers text false 0) e)
   where
@@ -74,7 +72,7 @@ meets text r l few e = rw (le-ltb 256 (length text) l) (go (read_numbers text fa
     go none e = e
     go (some []) e = e
     go (some (way ∷ names)) e =
-        let m = ap (λ (r : Numbers). r.many) e in
+        let m = ap (λ (r : ℕ × List ℕ). r.0) e in
         e ∙ rw (zero-add (length (way ∷ names)), stored_front (way ∷ names) (omega arith))
 
 module _ (text values : List ℕ) (n at : ℕ) (s : Stored text values n at) where
@@ -86,25 +84,24 @@ module _ (text values : List ℕ) (n at : ℕ) (s : Stored text values n at) whe
   store_few = let l = s.long in omega arith
 
   -- the text is read
-  pub store_end : length text ≤ at → MeetsLine text (record { many = n; values = values })
+  pub store_end : length text ≤ at → (n, values) ≡ numbers_of (read_line text)
   store_end l =
       let z : n + 0 ≡ n = omega arith in
       let e = ap (filled values n) (sym (end_outside text at l)) ∙ s.same in
-      meets text _ s.short few (ap (λ (k : ℕ). record { many = k; values = values }) (sym z) ∙ e)
+      meets text (n, values) s.short few (rw z at e)
 
   -- a number begins there
   pub store_starts : at < length text → is_parting (byte_at text at) ≡ false
   store_starts = s.begins
 
-  module _ (h : at < length text) (f : Found) (is : as_numbers text f ≡ read_numbers (drop at text) false 0) where
+  module _ (h : at < length text) (f : rust.Option (ℕ × ℕ)) (is : as_numbers text f ≡ read_numbers (drop at text) false 0) where
     -- no number stands there
-    pub store_bad : f ≡ Bad → (r : Numbers) → r.many ≡ 0 → r.values ≡ zeros → MeetsLine text r
-    store_bad e r z v =
+    pub store_bad : f ≡ rust.None → (many : ℕ) (all : List ℕ) → many ≡ 0 → all ≡ zeros → (many, all) ≡ numbers_of (read_line text)
+    store_bad e many all z v =
         let i : none ≡ read_numbers (drop at text) false 0 = rw e at is in
-        let t : r ≡ record { many = 0; values = zeros } = rw (← z, ← v) in
-        meets text r s.short (omega arith) (t ∙ ap (filled values n) i ∙ s.same)
+        rw (z, v) (meets text (0, zeros) s.short (omega arith) (ap (filled values n) i ∙ s.same))
 
-    module _ (v next : ℕ) (e : f ≡ Number v next) (b : Beyond text at f) where
+    module _ (v next : ℕ) (e : f ≡ rust.Some (v, next)) (b : Beyond text at f) where
       -- there is a place for it
       pub store_place : n < length values
       store_place = let a = s.short in let b = s.few in let c = s.long in omega arith
@@ -134,9 +131,9 @@ module _ (text values : List ℕ) (n at : ℕ) (s : Stored text values n at) whe
           }
 
 -- a text over 256 bytes
-pub store_none : (text : List ℕ) → 256 < length text → (r : Numbers) → r.many ≡ 0 → r.values ≡ zeros → MeetsLine text r
+pub store_none : (text : List ℕ) → 256 < length text → (many : ℕ) (all : List ℕ) → many ≡ 0 → all ≡ zeros → (many, all) ≡ numbers_of (read_line text)
 unfolding read_line
-store_none text l r z v = let t : r ≡ record { many = 0; values = zeros } = rw (← z, ← v) in rw (lt-ltb 256 (length text) l) t
+store_none text l many all z v = rw (lt-ltb 256 (length text) l) (rw (z, v))
 
 -- all of these
 pub ruleset stores = (store_begin, store_few, store_end, store_starts, store_bad, store_place, store_next, store_less, store_more, store_none)

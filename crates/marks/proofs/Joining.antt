@@ -6,21 +6,22 @@ use native.Mathlib.Omega.{arith}
 use lib.ListN.{length, get_or, take}
 use Rattle.paper.specs.Lists.{has, keep}
 use Rattle.paper.specs.Bytes.{part, u32_at}
-use Rattle.paper.specs.Record.{bit_at}
+use Rattle.paper.specs.Record.{bit_at, bits_of, tail_of}
 use Rattle.paper.specs.Held.{contents}
 use Rattle.laws.proofs.Lists.{has_none}
 use Rattle.laws.proofs.Parts.{part_none}
 use Rattle.meaning.proofs.Rising.{Ascends}
 use Rattle.meaning.proofs.Sound.{tail_rise, has_bit, has_tail}
 use Rattle.record.specs.declared.Parts.{Parts}
-use Rattle.record.specs.declared.BlockAt.{BlockAt}
-use Rattle.record.specs.Opened.{Opened, LiesAt}
+use Rattle.record.specs.Opened.{Opened, block_slots}
 use Rattle.record.specs.Front.{Front}
-use Rattle.record.proofs.Opening.{slots_behind, slots_from, cut_is, bits_are, slots_end, slots_next, lies}
+use Rattle.codes.specs.declared.block.Block.{Block}
+use Rattle.record.proofs.Opening.{blocks_next, first_next, slots_from, cut_is, slots_end}
 use Rattle.plain.specs.Sifted.{up_to, Told}
 use Rattle.marks.specs.Marks.{Clear}
 use Rattle.marks.specs.Waiting.{whole, Waits, Below}
-use Rattle.marks.proofs.Waiting.{Comes, keep_same, keep_none, left_rise, both, passed_over}
+use Rattle.plain.proofs.Meant.{keep_same, keep_none, left_rise, both}
+use Rattle.marks.proofs.Waiting.{Comes, passed_over}
 
 -- nothing is kept of the candidates left: those that stand kept are all
 module _ (slots : List ℕ) (count kept next : ℕ) (s : List ℕ) (few : kept ≤ length s) where
@@ -38,24 +39,18 @@ module _ (u B : ℕ) (r : List ℕ) (p : Parts) (o : Opened u B r p) where
 
   -- block `nth` comes: its first slot is the base of a piece
   pub block_begin : (nth : ℕ) → nth < p.m → (w t : List ℕ) (count kept next : ℕ) (s : List ℕ) → Waits u slots (slots_from u B r nth) w t count kept next s
-      → (q : BlockAt) → LiesAt u B r nth q
-      → Comes u slots (slots_from u B r (nth + 1)) w t count kept next s (part r q.start q.end) 0 q.count q.first
-  block_begin nth l w t count kept next s h q is =
-      record { reads = record { low = is.low; small = o.small; sound = is.reads }; waits = rw (slots_next u B r p o nth l q is) at h }
-
-  -- where a block lies
-  found : (b : ℕ) → b < p.m → (q : BlockAt) × (q.first ≡ u32_at r (p.from + 8 * b)) × LiesAt u B r b q
-  found b l = (_, refl, lies u B r p o b l _ refl _ _ _ refl refl refl)
+      → (q : Block) → get_or (tail_of u B r).blocks nth [] ≡ block_slots q → q.u ≡ u
+      → Comes u slots (slots_from u B r (nth + 1)) w t count kept next s q
+  block_begin nth l w t count kept next s h q is same = record { same = same; small = o.small; waits = rw (blocks_next u B r p o nth l q is) at h }
 
   module _ (nth : ℕ) (l : nth < p.m) (w t : List ℕ) (count kept next : ℕ) (s : List ℕ) (h : Waits u slots (slots_from u B r nth) w t count kept next s) where
     -- block `nth` is passed over
     pub block_passed : next < count → Below p r nth (get_or s next 0) → Waits u slots (slots_from u B r (nth + 1)) w t count kept next s
     block_passed k b =
-        let q = found nth l in
-        let n = found (nth + 1) b.further in
-        passed_over u slots (q.0.first ∷ slots_behind u r q.0) (slots_from u B r (nth + 1)) w t count kept next s
-        (rw (slots_next u B r p o nth l q.0 q.2) at h)
-        n.0.first _ (slots_next u B r p o (nth + 1) b.further n.0 n.2) k (rw n.1 b.low)
+        let q = first_next u B r p o nth l in
+        let n = first_next u B r p o (nth + 1) b.further in
+        passed_over u slots (u32_at r (p.from + 8 * nth) ∷ q.0) (slots_from u B r (nth + 1)) w t count kept next s (rw q.1 at h)
+        (u32_at r (p.from + 8 * (nth + 1))) _ n.1 k b.low
 
   module _ (nth : ℕ) (w t : List ℕ) (count kept next : ℕ) (s : List ℕ) (h : Waits u slots (slots_from u B r nth) w t count kept next s) where
     -- no candidate is left
@@ -99,30 +94,32 @@ module _ (u B : ℕ) (r : List ℕ) (p : Parts) (o : Opened u B r p) where
           same = refl;
         }
 
-  -- The whole list: the bits tell the candidates xs up to the cut
-  module _ (count : ℕ) (s : List ℕ) (rise : Ascends u 0 (take count s)) (kept next : ℕ) (t : List ℕ)
-      (told : Told (up_to p.cut (bit_at (part r 12 p.from)) (take count s)) count kept next t) where
+  -- The whole list: the bits tell the candidates up to the cut
+  module _ (count : ℕ) (s : List ℕ) (rise : Ascends u 0 s) (kept next : ℕ) (t : List ℕ)
+      (told : Told (up_to p.cut (bit_at (bits_of r)) s) count kept next t) where
     abbrev left : List ℕ
-    left = (up_to p.cut (bit_at (part r 12 p.from)) (take count s)).left
+    left = (up_to p.cut (bit_at (bits_of r)) s).left
 
     left_above : Ascends u p.cut left
-    left_above = left_rise u p.cut (bit_at (part r 12 p.from)) 0 (take count s) rise
+    left_above = left_rise u p.cut (bit_at (bits_of r)) 0 s rise
 
     -- the others are above it
-    pub above_cut : Ascends u p.cut (part t next count)
-    above_cut = rw told.rest left_above
+    pub above_cut : (c : ℕ) → c ≡ count → Ascends u p.cut (part t next c)
+    above_cut c e = rw (e, told.rest) left_above
 
     -- and those of them that are slots behind it make up all that the list holds
-    pub merged : (m : ℕ) (v : List ℕ) → Front (whole slots count kept next t) m v → Front (keep (λ x. has x (contents u B r)) (take count s)) m v
-    merged m v f =
-        let c = cut_is u B r p o in
+    pub merged : (c : ℕ) → c ≡ count → (m : ℕ) (v : List ℕ) → Front (whole slots c kept next t) m v → Front (keep (λ x. has x (contents u B r)) s) m v
+    merged c e m v f =
+        let cut = cut_is u B r p o in
         record {
           few = f.few;
           are =
               f.are
-              ∙ rw (told.front, told.rest)
-              (ap (λ (l : List ℕ). (up_to p.cut (bit_at (part r 12 p.from)) (take count s)).kept ++ l)
-              (keep_same (λ x. has x slots) (λ x. has x (contents u B r)) u p.cut (λ x l. sym (has_tail u B r o.some_b o.sound x (omega arith))) left left_above)
-              ∙ both u p.cut (bit_at (part r 12 p.from)) (λ x. has x (contents u B r)) 0
-              (λ x l k. rw (bits_are u B r p o) (sym (has_bit u B r o.some_b o.sound x (omega arith) (omega arith)))) (take count s) rise);
+              ∙ rw (e, told.front, told.rest)
+              (both u p.cut (bit_at (bits_of r)) (keep (λ x. has x slots)) (λ x. has x (contents u B r))
+              (λ xs r'. keep_same (λ x. has x slots) (λ x. has x (contents u B r)) u p.cut (λ x l. sym (has_tail u B r o.some_b o.sound x (omega arith))) xs r') 0
+              (λ x l k. sym (has_bit u B r o.some_b o.sound x (omega arith) (omega arith))) s rise);
         }
+
+-- where there are candidates behind the cut and blocks, or not
+pub ruleset tails = (no_blocks, no_candidates, blocks_begin)

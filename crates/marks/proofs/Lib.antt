@@ -1,4 +1,3 @@
-pub mod Turns
 pub mod Tables
 pub mod Pieces
 pub mod Waiting

@@ -8,12 +8,11 @@ use lib.ListN.{length, drop, length-set}
 use Rattle.paper.specs.Lists.{has, last_of}
 use Rattle.paper.specs.Code.{code_of}
 use Rattle.paper.specs.Code.Code.{code}
-use Rattle.paper.specs.Block.{Block, cons, read_codes}
-use Rattle.laws.proofs.Blocks.{turn_bad, turn_above, turn_next}
 use Rattle.meaning.proofs.Rising.{stop_above, stops_at, pass_below}
 use Rattle.meaning.proofs.Blocks.{codes_rise}
 use Rattle.codes.specs.Got.{Stands}
-use Rattle.codes.proofs.Standing as standing
+use Rattle.codes.proofs.Sound as sound
+use Rattle.codes.specs.declared.block.Block.{Block}
 use Rattle.marks.specs.Marks.{marked, marking, Clear, Reads, slots_left, Piece}
 use Rattle.marks.proofs.Tables.{mark_here, mark_near, mark_other}
 
@@ -21,28 +20,17 @@ use Rattle.marks.proofs.Tables.{mark_here, mark_near, mark_other}
 module _ (u : ℕ) (bs : List ℕ) (p left y : ℕ) (r : Reads u bs p left y) (some : 0 < left) where
   -- it stands there
   pub stands : Stands bs p
-  stands =
-      record {
-        sound = λ e.
-            let z : ◌≡◌ {A = ℕ} 8 0 = sym (ap (λ (b : Block). b.fault) (turn_bad u y left bs p some (sym e))) ∙ r.sound in
-            absurd (omega arith);
-      }
+  stands = sound.stands u left y bs p r.sound some
 
   -- in the block
   pub there : p < length bs
-  there = standing.there bs p stands
+  there = sound.inside u left y bs p r.sound some
 
   -- and leads to the next slot
   module _ (v q : ℕ) (is : code v (drop q bs) ≡ code_of (drop p bs)) where
     -- within u
     pub within : y + v + 1 ≤ u
-    within =
-        elim (dec_le (y + v + 1) u) [
-          | yes l ↦ l
-          | no n ↦
-              let z : ◌≡◌ {A = ℕ} 9 0 = sym (ap (λ (b : Block). b.fault) (turn_above u y left bs p some v q is (omega arith))) ∙ r.sound in
-              absurd (omega arith)
-        ]
+    within = sound.below u left y bs p r.sound some v q is
 
     -- and so the sum fits 32 bits
     pub sum_fits : y + v < 4294967296
@@ -56,22 +44,23 @@ module _ (u : ℕ) (bs : List ℕ) (p left y : ℕ) (r : Reads u bs p left y) (s
     pub slot_small : y + v + 1 ≤ 1048576
     slot_small = let w = within in let m = r.small in omega arith
 
-    next : read_codes u left y (drop p bs) ≡ cons (y + v + 1) (read_codes u (left - 1) (y + v + 1) (drop q bs))
-    next = turn_next u y left bs p some v q is within
-
     -- which is the first of those left
     pub next_slots : slots_left u bs p left y ≡ (y + v + 1) ∷ slots_left u bs q (left - 1) (y + v + 1)
-    next_slots = ap (λ (b : Block). b.slots) next
+    next_slots = sound.rest_slots u left y bs p r.sound some v q is
 
     -- and the others have no fault
     pub next_reads : Reads u bs q (left - 1) (y + v + 1)
-    next_reads = record { low = within; small = r.small; sound = sym (ap (λ (b : Block). b.fault) next) ∙ r.sound }
+    next_reads = record { low = within; small = r.small; sound = sound.rest_sound u left y bs p r.sound some v q is }
+
+-- a block that is known to be well, before any of its codes is read
+pub block_reads : (d : Block) → d.u ≤ 1048576 → Reads d.u d.codes.now 0 d.count d.first
+block_reads d l = record { low = d.low; small = l; sound = d.sound }
 
 -- the slot read last is marked, and begins a piece
-pub piece_begin : (u : ℕ) (bs : List ℕ) (p left y : ℕ) (t : List ℕ) → Reads u bs p left y → Clear y t → (t' : List ℕ) → t' ≡ marking t y
-    → Piece u bs (y ∷ slots_left u bs p left y) t' y left t' p left y
-piece_begin u bs p left y t r c t' is =
-    rw is
+pub piece_begin : (u : ℕ) (bs : List ℕ) (p left y : ℕ) (t : List ℕ) → Reads u bs p left y → Clear y t → (t' : List ℕ) → t' ≡ marking t y → (m : ℕ) → m ≡ left
+    → Piece u bs (y ∷ slots_left u bs p left y) t' y left t' p m y
+piece_begin u bs p left y t r c t' is m e =
+    rw (is, e)
     record {
       reads = r;
       up = omega arith;
@@ -95,8 +84,8 @@ module _ (u : ℕ) (bs zs before : List ℕ) (base most : ℕ) (t : List ℕ) (p
   ahead x l = ap (has x) (sym (next_slots u bs p left y h.reads some v q is)) ∙ h.onward x l
 
   -- the next slot is marked too, where it is less than 16384 above the base
-  pub piece_turn : y + v + 1 - base < 16384 → (t' : List ℕ) → t' ≡ marking t (y + v + 1) → Piece u bs zs before base most t' q (left - 1) (y + v + 1)
-  piece_turn l t' made =
+  pub piece_turn : y + v + 1 - base < 16384 → (t' : List ℕ) → t' ≡ marking t (y + v + 1) → (m : ℕ) → m ≡ left - 1 → Piece u bs zs before base most t' q m (y + v + 1)
+  piece_turn l t' made m is_m =
       let r = h.reads in
       let c = h.clear in
       let b = h.up in
@@ -104,7 +93,7 @@ module _ (u : ℕ) (bs zs before : List ℕ) (base most : ℕ) (t : List ℕ) (p
       let z = y + v + 1 in
       let s : slots_left u bs p left y ≡ z ∷ slots_left u bs q (left - 1) z = next_slots u bs p left y r some v q is in
       let n : Reads u bs q (left - 1) z = next_reads u bs p left y r some v q is in
-      rw made
+      rw (made, is_m)
       record {
         reads = n;
         up = omega arith;
@@ -132,12 +121,13 @@ module _ (u : ℕ) (bs zs before : List ℕ) (base most : ℕ) (t : List ℕ) (p
           ∙ sym (stop_above x (y + v + 1) _ u (codes_rise u _ _ _ n.sound) (omega arith))
           ∙ ahead x (omega arith)
 
--- all of a piece, with its base, are marked in a table t
+-- all of a piece, with its base, are marked in a table t; what is left is told by the bytes from p on
 pub piece_end : (u : ℕ) (bs zs t t' : List ℕ) (base most : ℕ) → Clear base t → t' ≡ marking t base → (t'' : List ℕ) (p left y : ℕ)
-    → Piece u bs zs t' base most t'' p left y → Piece u bs zs t base most t'' p left y
-piece_end u bs zs t t' base most c is t'' p left y h =
+    → Piece u bs zs t' base most t'' p left y → (m : ℕ) → m ≡ left → Piece u (drop p bs) zs t base most t'' 0 m y
+piece_end u bs zs t t' base most c is t'' p left y h m e =
+    rw e
     record {
-      reads = h.reads;
+      reads = record { low = h.reads.low; small = h.reads.small; sound = h.reads.sound };
       up = h.up;
       near = h.near;
       fewer = h.fewer;
@@ -149,4 +139,4 @@ piece_end u bs zs t t' base most c is t'' p left y h =
     }
 
 -- the loop over a piece
-pub ruleset pieces = (stands, there, within, sum_fits, slot_fits, slot_small, piece_begin, piece_turn, piece_end)
+pub ruleset pieces = (block_reads, stands, there, within, sum_fits, slot_fits, slot_small, next_slots, next_reads, piece_begin, piece_turn, piece_end)

@@ -1,63 +1,25 @@
 -- A merge on its way through the slots behind the cut: a piece is told, slots are passed over, and the end is reached.
 use Prim.Native.Nat.{ℕ, ◌≤◌, ◌<◌}
 use mathlib.Core.Path.{◌≡◌, refl, sym, ap, ◌∙◌}
-use mathlib.Core.Bool.{Bool, true, false, ◌||◌}
+use mathlib.Core.Bool.{Bool, false, ◌||◌}
 use mathlib.Core.List.{List, [], ◌∷◌, ◌++◌, append_assoc}
-use native.Mathlib.Decide.{dec_le, dec_lt}
+use native.Mathlib.Decide.{dec_lt}
 use native.Mathlib.Omega.{arith}
-use lib.ListN.{get_or, take, drop}
-use Rattle.paper.specs.Lists.{pick, has, keep, last_of}
+use lib.ListN.{get_or, take}
+use Rattle.paper.specs.Lists.{has, keep, last_of}
 use Rattle.paper.specs.Bytes.{part}
-use Rattle.laws.proofs.Lists.{has_none, has_joined, has_front, has_behind, keep_fail}
+use Rattle.laws.proofs.Lists.{has_none, has_joined, has_front, has_behind}
 use Rattle.laws.proofs.Parts.{part_cons, part_none}
 use Rattle.laws.proofs.Blocks.{slots_none}
-use Rattle.meaning.proofs.Rising.{Ascends, rise_lower, rise_join, rise_front, rise_back, last_most, has_low, stop_above, pass_below}
+use Rattle.meaning.proofs.Rising.{Ascends, rise_join, rise_front, rise_back, last_most, has_low, stop_above, pass_below}
 use Rattle.meaning.proofs.Blocks.{codes_rise}
 use Rattle.plain.specs.Sifted.{behind, up_to, Told}
-use Rattle.marks.specs.Marks.{marked, Clear, Reads, slots_left, Piece}
+use Rattle.codes.specs.declared.block.Block.{Block}
+use Rattle.codes.specs.InBlock.{read_block}
+use Rattle.record.specs.Opened.{block_slots}
+use Rattle.marks.specs.Marks.{marked, Clear, slots_left, Piece}
 use Rattle.marks.specs.Waiting.{whole, Waits}
-use Rattle.plain.proofs.Steps.{up_here, up_above}
-
--- two tests that agree on what is above a keep the same of a list that rises above a
-pub keep_same : (f g : ℕ → Bool) (u a : ℕ) → ((x : ℕ) → a < x → f x ≡ g x) → (xs : List ℕ) → Ascends u a xs → keep f xs ≡ keep g xs
-unfolding keep
-keep_same f g u a e [] r = refl
-keep_same f g u a e (x ∷ xs) r =
-    let rest : keep f xs ≡ keep g xs = keep_same f g u a e xs (rise_lower u a x xs (omega arith) r.2) in
-    rw (e x r.0, rest)
-
--- a test that fails on all of them keeps nothing
-pub keep_none : (f : ℕ → Bool) (u a : ℕ) → ((x : ℕ) → a < x → f x ≡ false) → (xs : List ℕ) → Ascends u a xs → keep f xs ≡ []
-unfolding keep
-keep_none f u a e [] r = refl
-keep_none f u a e (x ∷ xs) r = keep_fail f x xs (e x r.0) ∙ keep_none f u a e xs (rise_lower u a x xs (omega arith) r.2)
-
--- Candidates that rise above a, of which those up to y are told by a test
-module _ (u y : ℕ) (t : ℕ → Bool) where
-  -- those left are above y
-  pub left_rise : (a : ℕ) (xs : List ℕ) → Ascends u a xs → Ascends u y (up_to y t xs).left
-  unfolding up_to
-  left_rise a [] r = tt
-  left_rise a (x ∷ xs) r =
-      elim (dec_le x y) [
-        | yes l ↦ rw (up_here y t x xs l) (left_rise x xs r.2)
-        | no n ↦ rw (up_above y t x xs (omega arith)) (omega arith, r.1, r.2)
-      ]
-
-  -- those kept, and what another test keeps of those left, are what it keeps of all, where the two agree up to y
-  pub both : (h : ℕ → Bool) (a : ℕ) → ((x : ℕ) → a < x → x ≤ y → t x ≡ h x) → (xs : List ℕ) → Ascends u a xs
-      → (up_to y t xs).kept ++ keep h (up_to y t xs).left ≡ keep h xs
-  unfolding up_to keep
-  both h a e [] r = refl
-  both h a e (x ∷ xs) r =
-      elim (dec_le x y) [
-        | yes l ↦ rw (up_here y t x xs l, e x r.0 l) (go (h x) _ _ _ (both h x (λ z k. e z (omega arith)) xs r.2))
-        | no n ↦ rw (up_above y t x xs (omega arith))
-      ]
-    where
-      go : (b : Bool) (ks ls ms : List ℕ) → ks ++ ls ≡ ms → pick b (x ∷ ks) ks ++ ls ≡ pick b (x ∷ ms) ms
-      go true ks ls ms q = ap (λ (l : List ℕ). x ∷ l) q
-      go false ks ls ms q = q
+use Rattle.plain.proofs.Meant.{left_rise, both}
 
 module _ (u : ℕ) (slots rest w t : List ℕ) (count kept next : ℕ) (s : List ℕ) where
   -- the merge goes on by what stands there
@@ -76,9 +38,9 @@ module _ (u : ℕ) (slots rest w t : List ℕ) (count kept next : ℕ) (s : List
       }
 
   -- and comes to the same
-  pub carried : Waits u slots rest w t count kept next s → (rest' t' : List ℕ) (m n : ℕ) (s' : List ℕ)
-      → Waits u slots rest' (whole slots count kept next s) t' count m n s' → Waits u slots rest' w t' count m n s'
-  carried h rest' t' m n s' g =
+  pub carried : Waits u slots rest w t count kept next s → (rest' t' : List ℕ) (c m n : ℕ) (s' : List ℕ)
+      → Waits u slots rest' (whole slots count kept next s) t' c m n s' → Waits u slots rest' w t' c m n s'
+  carried h rest' t' c m n s' g =
       record {
         floor = g.floor;
         low = g.low;
@@ -128,46 +90,61 @@ module _ (u : ℕ) (slots xs after w t : List ℕ) (count kept next : ℕ) (s : 
       let b = rw is at (rise_back u h.floor xs after h.above) in
       passed (rw c (omega arith, r.1, r.2))
 
--- A piece with the base y is to come, and then the slots that the codes left give, and those behind the block
-pub record Comes (u : ℕ) (slots after w t : List ℕ) (count kept next : ℕ) (s bs : List ℕ) (p left y : ℕ) : Type 0 where
-  pub reads : Reads u bs p left y
-  pub waits : Waits u slots ((y ∷ slots_left u bs p left y) ++ after) w t count kept next s
+-- The slots of a block are to come, its first slot being the base of a piece, and then those behind it
+pub record Comes (u : ℕ) (slots after w t : List ℕ) (count kept next : ℕ) (s : List ℕ) (b : Block) : Type 0 where
+  pub same : b.u ≡ u
+  pub small : u ≤ 1048576
+  pub waits : Waits u slots (block_slots b ++ after) w t count kept next s
 
-module _ (u : ℕ) (slots after w t₀ : List ℕ) (count kept next : ℕ) (s bs : List ℕ) (p left y : ℕ) (c : Comes u slots after w t₀ count kept next s bs p left y) where
-  h : Waits u slots ((y ∷ slots_left u bs p left y) ++ after) w t₀ count kept next s
+module _ (u : ℕ) (slots after w t₀ : List ℕ) (count kept next : ℕ) (s : List ℕ) (d : Block) (c : Comes u slots after w t₀ count kept next s d) where
+  abbrev y : ℕ
+  y = d.first
+
+  abbrev zs : List ℕ
+  zs = (read_block d).slots
+
+  h : Waits u slots ((y ∷ zs) ++ after) w t₀ count kept next s
   h = c.waits
+
+  -- no mark is made above the largest slot
+  pub small_here : d.u ≤ 1048576
+  small_here = rw c.same c.small
 
   -- no slot from y on is marked
   pub clear_here : Clear y t₀
   clear_here = let a = h.above.0 in record { long = h.clear.long; none = λ x l k. h.clear.none x (omega arith) k }
 
   -- it is marked up to y'
-  module _ (t : List ℕ) (p' left' y' : ℕ) (g : Piece u bs (y ∷ slots_left u bs p left y) t₀ y left t p' left' y') where
-    abbrev zs : List ℕ
-    zs = slots_left u bs p left y
+  module _ (t : List ℕ) (d' : Block) (g : Piece d.u d'.codes.now (block_slots d) t₀ y d.count t 0 d'.count d'.first) (of : d'.u ≡ d.u) where
+    abbrev y' : ℕ
+    y' = d'.first
+
+    abbrev zs' : List ℕ
+    zs' = slots_left d.u d'.codes.now 0 d'.count y'
 
     back : Ascends u (last_of y zs) after
     back = rise_back u h.floor (y ∷ zs) after h.above
 
-    codes : Ascends u y' (slots_left u bs p' left' y')
-    codes = codes_rise u left' y' _ g.reads.sound
+    codes : Ascends u y' zs'
+    codes = rw (← c.same) (codes_rise d.u d'.count y' _ g.reads.sound)
 
     -- so far the table tells what the slots do
     agree : (x : ℕ) → h.floor < x → x ≤ y' → marked t x ≡ has x slots
     agree x l k =
         let b = g.reads.low in
-        let m = c.reads.small in
+        let m = c.small in
+        let k' = c.same in
         elim (dec_lt x y) [
           | yes a ↦ g.old x a (h.clear.none x (omega arith) (omega arith)) ∙ sym (h.ahead x l ∙ stop_above x y (zs ++ after) u h.above.2 a)
           | no a ↦
-              let m : y' ≤ last_of y' (slots_left u bs p' left' y') = last_most u y' (slots_left u bs p' left' y') codes in
-              let e : last_of y' (slots_left u bs p' left' y') ≡ last_of y zs = g.last in
+              let m : y' ≤ last_of y' zs' = last_most u y' zs' codes in
+              let e : last_of y' zs' ≡ last_of y zs = g.last in
               g.new x (omega arith) k ∙ sym (h.ahead x l ∙ has_front x (y ∷ zs) after (has_low u (last_of y zs) x after back (omega arith)))
         ]
 
     -- and the candidates up to y' are told by it
     module _ (m n : ℕ) (s' : List ℕ) (told : Told (behind (take kept s) (up_to y' (marked t) (part s next count))) count m n s') where
-      told_by : Waits u slots (slots_left u bs p' left' y' ++ after) w t count m n s'
+      told_by : Waits u slots (zs' ++ after) w t count m n s'
       told_by =
           let up = g.up in
           let b = h.above.0 in
@@ -182,22 +159,21 @@ module _ (u : ℕ) (slots after w t₀ : List ℕ) (count kept next : ℕ) (s bs
                 h.ahead x (omega arith)
                 ∙ has_joined x (y ∷ zs) after
                 ∙ ap (λ (b : Bool). b || has x after) (sym (g.onward x l))
-                ∙ sym (has_joined x (slots_left u bs p' left' y') after);
-            above = rise_join u y' (slots_left u bs p' left' y') after codes (rw g.last back);
+                ∙ sym (has_joined x zs' after);
+            above = rise_join u y' zs' after codes (rw g.last back);
             same =
                 rw (told.front, told.rest, append_assoc)
-                (ap (λ (l : List ℕ). take kept s ++ l) (both u y' (marked t) (λ x. has x slots) h.floor agree (part s next count) h.rise) ∙ h.same);
+                (ap (λ (l : List ℕ). take kept s ++ l) (both u y' (marked t) (keep (λ x. has x slots)) (λ x. has x slots) (λ xs r. refl) h.floor agree (part s next count) h.rise) ∙ h.same);
           }
 
       -- no code is left
-      pub block_done : left' ≡ 0 → Waits u slots after w t count m n s'
-      block_done z = rw (slots_none u y' left' (omega arith) (drop p' bs)) at told_by
+      pub block_done : d'.count ≡ 0 → (c : ℕ) → c ≡ count → Waits u slots after w t c m n s'
+      block_done z c e = rw e (rw (slots_none d.u y' d'.count (omega arith) d'.codes.now) at told_by)
 
       -- no candidate is left
-      pub block_none : count ≤ n → Waits u slots after w t count m n s'
-      block_none l = none_left u slots (slots_left u bs p' left' y') after w t count m n s' told_by l
+      pub block_none : count ≤ n → (c : ℕ) → c ≡ count → Waits u slots after w t c m n s'
+      block_none l c e = rw e (none_left u slots zs' after w t count m n s' told_by l)
 
       -- the next code gives the base of the next piece
-      pub block_next : (p'' left'' y'' : ℕ) → Reads u bs p'' left'' y'' → slots_left u bs p' left' y' ≡ y'' ∷ slots_left u bs p'' left'' y''
-          → Comes u slots after w t count m n s' bs p'' left'' y''
-      block_next p'' left'' y'' r is = record { reads = r; waits = rw is at told_by }
+      pub block_next : (d'' : Block) → (read_block d').slots ≡ block_slots d'' → d''.u ≡ d'.u → Comes u slots after w t count m n s' d''
+      block_next d'' is now = record { same = now ∙ of ∙ c.same; small = c.small; waits = rw (rw of at is) at told_by }

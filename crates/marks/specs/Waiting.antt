@@ -4,6 +4,8 @@ use Rattle.paper.specs.Lists.{has, keep}
 use Rattle.paper.specs.Bytes.{part, u32_at}
 use Rattle.meaning.proofs.Rising.{Ascends}
 use Rattle.record.specs.declared.Parts.{Parts}
+use Rattle.record.specs.declared.held.Held.{Held}
+use Rattle.plain.specs.declared.Merged.{Merged}
 use Rattle.record.proofs.Opening.{slots_from}
 use Rattle.marks.specs.Marks.{Clear}
 
@@ -23,9 +25,17 @@ pub record Waits (u : ℕ) (slots rest w t : List ℕ) (count kept next : ℕ) (
   pub above : Ascends u floor rest
   pub same : whole slots count kept next s ≡ w
 
--- the slots behind the cut, those of block `nth` and the blocks behind it being still to come
-abbrev pub AtBlock : Parts → List ℕ → ℕ → List ℕ → List ℕ → ℕ → ℕ → ℕ → List ℕ → Type 0
-AtBlock p r nth w t count kept next s = Waits p.u (slots_from p.u p.block r 0) (slots_from p.u p.block r nth) w t count kept next s
+-- the slots of an opened record behind the cut, from block `nth` on
+abbrev pub from_block : Held → ℕ → List ℕ
+from_block h nth = slots_from h.parts.u h.parts.block h.rec.now nth
+
+-- what a merge comes to that is at m: those of all blocks are slots
+abbrev pub comes_to : Held → Merged → List ℕ → List ℕ
+comes_to h m s = whole (from_block h 0) (length s) m.kept m.next s
+
+-- it is at m: the slots of block `nth` and the blocks behind it are still to come
+abbrev pub AtBlock : Held → ℕ → List ℕ → List ℕ → Merged → List ℕ → Type 0
+AtBlock h nth w t m s = Waits h.parts.u (from_block h 0) (from_block h nth) w t (length s) m.kept m.next s
 
 -- the slots of block `nth` are all below x: the next one begins with x or below it
 pub record Below (p : Parts) (r : List ℕ) (nth x : ℕ) : Type 0 where

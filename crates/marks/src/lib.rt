@@ -2,38 +2,22 @@
 // reports nothing, reads every code at most twice, and no block whose slots are all below the first candidate left.
 #![tactic(auto)]
 
-ghost use Rattle.std.specs.Prelude.{◌≡◌, ◌∷◌, ◌+◌, ◌*◌, ◌≤◌, ◌<◌, length, take};
-ghost use Rattle.paper.specs.Lists.{bit_of, has, keep};
+ghost use Rattle.std.specs.Prelude.{◌≡◌, ◌∷◌, ◌+◌, ◌*◌, ◌≤◌, ◌<◌, IsTrue, length, take};
+ghost use Rattle.paper.specs.Lists.{has, keep};
 ghost use Rattle.paper.specs.Bytes.{part};
-ghost use Rattle.paper.specs.Record.{bit_at};
-ghost use Rattle.paper.specs.Held.{contents};
 ghost use Rattle.meaning.proofs.Rising.{Ascends};
-ghost use Rattle.record.specs.Opened.{Opened};
+ghost use Rattle.codes.specs.InBlock.{read_block};
+ghost use Rattle.record.specs.Opened.{block_slots};
+ghost use Rattle.record.specs.Holds.{slots_of};
 ghost use Rattle.record.specs.Front.{Front, Candidates};
-ghost use Rattle.record.proofs.Opening.{slots_from};
 ghost use Rattle.plain.specs.Sifted.{up_to, behind, Told};
-ghost use Rattle.marks.specs.Waiting.{whole, AtBlock, Below};
-ghost use Rattle.marks.specs.Marks.{marked, marking, NoMarks, Clear, Reads, Piece, slots_left};
+ghost use Rattle.marks.specs.Waiting.{comes_to, AtBlock, Below};
+ghost use Rattle.marks.specs.Marks.{marked, marking, NoMarks, Clear, Piece};
 
-use codes::known_code;
-use plain::{Merged, merge_bits};
-use record::{Parts, block_at};
-use words::{one, u32_at};
-
-// How far the reading of a block is: y is the slot read last, and `left` codes are left from byte `at` on.
-#[derive(Clone, Copy)]
-pub struct Place {
-    pub at: usize,
-    pub left: u32,
-    pub y: u32,
-}
-
-// A mark, as a number.
-fn wide(mark: u8) -> u32
-    ensures { result ≡ mark }
-{
-    mark as u32
-}
+use codes::{Block, known_code};
+use plain::{Merged, merge_bits, tell};
+use record::Held;
+use words::u32_at;
 
 // A table without a mark: 255 is the quotient of no slot.
 fn no_marks() -> [u8; 16384]
@@ -43,8 +27,8 @@ fn no_marks() -> [u8; 16384]
 }
 
 // Marks slot y: at its remainder stands its quotient.
-fn put_mark(marks: &mut [u8], y: u32)
-    requires { (length marks.old ≡ 16384) × (y ≤ 1048576) }
+fn put_mark(marks: &mut [u8; 16384], y: u32)
+    requires { y ≤ 1048576 }
     ensures { marks.new ≡ marking marks.old y }
 {
     let at = (y % 16384) as usize;
@@ -52,175 +36,140 @@ fn put_mark(marks: &mut [u8], y: u32)
 }
 
 // Whether slot x is marked. The mark of a slot of the same remainder has another quotient.
-fn is_marked(marks: &[u8], x: u32) -> bool
-    requires { length marks.now ≡ 16384 }
+fn is_marked(marks: &[u8; 16384], x: u32) -> bool
     ensures { result ≡ marked marks.now x }
 {
     let at = (x % 16384) as usize;
-    wide(marks[at]) == x / 16384
+    u32::from(marks[at]) == x / 16384
 }
 
-// Marks a piece of a block: the slot read last, the base, and those behind it that are less than 16384 above it, so that no mark takes the place of another.
-fn mark_on(s: &[u8], u: u32, from: Place, marks: &mut [u8]) -> Place
-    requires { Reads u s.now from.at from.left from.y × Clear from.y marks.old }
-    ensures { Piece u s.now (from.y ∷ slots_left u s.now from.at from.left from.y) marks.old from.y from.left marks.new result.at result.left result.y }
+// Marks a piece of a block: its first slot, the base, and those behind it that are less than 16384 above it, so that no mark takes the place of another. What is left of the block
+// begins with the slot marked last.
+#[tactic(auto, using(crate::proofs::Pieces::pieces))]
+fn mark_on<'a>(block: Block<'a>, marks: &mut [u8; 16384]) -> Block<'a>
+    requires { (block.u ≤ 1048576) × Clear block.first marks.old }
+    ensures { let b = block.entry in (result.u ≡ b.u) × Piece b.u result.codes.now (block_slots b) marks.old b.first b.count marks.new 0 result.count result.first }
 {
-    let base = from.y;
-    let mut at = from.at;
-    let mut left = from.left;
+    let base = block.first;
+    let mut at: usize = 0;
     let mut y = base;
     put_mark(marks, base);
-    while 0 < left {
-        let got = known_code(s, at);
+    for read in 0..block.count {
+        let got = known_code(block.codes, at);
         let z = y + got.value + 1;
         if 16384 <= z - base {
-            return Place { at, left, y };
+            return Block {
+                codes: &block.codes[at..],
+                count: block.count - read,
+                first: y,
+                u: block.u,
+            };
         }
         put_mark(marks, z);
         at = got.next;
-        left = left - 1;
         y = z;
     }
-    Place { at, left, y }
-}
-
-// The base of the next piece: the slot that the next code gives.
-fn next_slot(s: &[u8], u: u32, p: Place) -> Place
-    requires { Reads u s.now p.at p.left p.y × (0 < p.left) }
-    ensures { Reads u s.now result.at result.left result.y × (slots_left u s.now p.at p.left p.y ≡ result.y ∷ slots_left u s.now result.at result.left result.y) × (result.left < p.left) }
-{
-    let got = known_code(s, p.at);
-    let left = p.left - 1;
-    let y = p.y + got.value + 1;
-    Place {
-        at: got.next,
-        left,
-        y,
+    Block {
+        codes: &block.codes[at..],
+        count: 0,
+        first: y,
+        u: block.u,
     }
 }
 
-// Candidates up to the slot that was marked last: the marks tell.
-fn tell(marks: &[u8], y: u32, slots: &mut [u32], count: usize, from: Merged) -> Merged
-    requires { (length marks.now ≡ 16384) × (from.kept ≤ from.next) × (from.next ≤ count) × (count ≤ length slots.old) }
-    ensures { Told (behind (take from.kept slots.old) (up_to y (marked marks.now) (part slots.old from.next count))) count result.kept result.next slots.new }
+// The block from its second slot on, which the first code gives.
+#[tactic(auto, using(crate::proofs::Pieces::pieces))]
+fn next_slot<'a>(block: Block<'a>) -> Block<'a>
+    requires { (block.u ≤ 1048576) × (0 < block.count) }
+    ensures { let b = block.entry in (result.u ≡ b.u) × ((read_block b).slots ≡ block_slots result) × (result.count < b.count) }
 {
-    let mut kept = from.kept;
-    let mut next = from.next;
-    while next < count {
-        let x = slots[next];
-        if y < x {
-            return Merged { kept, next };
-        }
-        let more = one(is_marked(marks, x));
-        slots[kept] = x;
-        kept = kept + more;
-        next = next + 1;
+    let got = known_code(block.codes, 0);
+    Block {
+        codes: &block.codes[got.next..],
+        count: block.count - 1,
+        first: block.first + got.value + 1,
+        u: block.u,
     }
-    Merged { kept, next }
 }
 
 // Candidates up to the last slot of a block: it is marked piece by piece, and after each piece the marks tell.
 fn merge_block(
-    rec: &[u8],
-    p: Parts,
+    list: &Held<'_>,
     nth: usize,
-    marks: &mut [u8],
+    marks: &mut [u8; 16384],
     slots: &mut [u32],
-    count: usize,
     from: Merged,
 ) -> Merged
-    requires { Opened p.u p.block rec.now p × (nth < p.m) × AtBlock p rec.now nth (whole (slots_from p.u p.block rec.now 0) count from.kept from.next slots.old) marks.old count from.kept from.next slots.old }
-    ensures { AtBlock p rec.now (nth + 1) (whole (slots_from p.u p.block rec.now 0) count from.kept from.next slots.old) marks.new count result.kept result.next slots.new }
+    requires { (nth < list.now.parts.m) × AtBlock list.now nth (comes_to list.now from slots.old) marks.old from slots.old }
+    ensures { AtBlock list.now (nth + 1) (comes_to list.now from slots.old) marks.new result slots.new }
 {
-    let b = block_at(rec, p, nth);
-    let start = b.start;
-    let end = b.end;
+    let n = slots.len();
     let mut told = from;
-    let mut place = Place {
-        at: 0,
-        left: b.count,
-        y: b.first,
-    };
-    loop {
-        let read = mark_on(&rec[start..end], p.u, place, marks);
-        told = tell(marks, read.y, slots, count, told);
-        if read.left == 0 {
+    let mut block = list.block(nth);
+    'pieces: loop {
+        let read = mark_on(block, marks);
+        told = tell(read.first, slots, told, |x| is_marked(marks, x));
+        if read.count == 0 {
             return told;
         }
-        if count <= told.next {
+        if n <= told.next {
             return told;
         }
-        place = next_slot(&rec[start..end], p.u, read);
+        block = next_slot(read);
     }
 }
 
-// 1 where the slots of block `nth` are all below x, since the next one begins with x or below it; else 0.
-fn below(rec: &[u8], p: Parts, nth: usize, x: u32) -> u32
-    requires { Opened p.u p.block rec.now p × (nth < p.m) }
-    ensures { 0 < result → Below p rec.now nth x }
+// Whether the slots of block `nth` are all below x, since the next one begins with x or below it.
+fn below(list: &Held<'_>, nth: usize, x: u32) -> bool
+    requires { nth < list.now.parts.m }
+    ensures { IsTrue result → Below list.now.parts list.now.rec.now nth x }
 {
     let next = nth + 1;
-    if p.m <= next {
-        return 0;
-    }
-    let first = u32_at(rec, p.from + 8 * next);
-    if x < first {
-        return 0;
-    }
-    1
+    next < list.parts.m && u32_at(list.rec, list.parts.from + 8 * next) <= x
 }
 
 // One block after the other, until no candidate is left.
-fn merge_blocks(
-    rec: &[u8],
-    p: Parts,
-    marks: &mut [u8],
-    slots: &mut [u32],
-    count: usize,
-    begin: Merged,
-) -> usize
-    requires { Opened p.u p.block rec.now p × AtBlock p rec.now 0 (whole (slots_from p.u p.block rec.now 0) count begin.kept begin.next slots.old) marks.old count begin.kept begin.next slots.old }
-    ensures { Front (whole (slots_from p.u p.block rec.now 0) count begin.kept begin.next slots.old) result slots.new }
+fn merge_blocks(list: &Held<'_>, marks: &mut [u8; 16384], slots: &mut [u32], begin: Merged) -> usize
+    requires { AtBlock list.now 0 (comes_to list.now begin slots.old) marks.old begin slots.old }
+    ensures { Front (comes_to list.now begin slots.old) result slots.new }
 {
-    let m = p.m;
+    let n = slots.len();
     let mut told = begin;
-    let mut nth: usize = 0;
-    while nth < m {
+    for nth in 0..list.parts.m {
         let next = told.next;
-        if count <= next {
+        if n <= next {
             return told.kept;
         }
-        if 0 < below(rec, p, nth, slots[next]) {
-            nth = nth + 1;
+        if below(list, nth, slots[next]) {
             continue;
         }
-        told = merge_block(rec, p, nth, marks, slots, count, told);
-        nth = nth + 1;
+        told = merge_block(list, nth, marks, slots, told);
     }
     told.kept
 }
 
 // Candidates behind the cut. Where there are none, or no slots there, no table is made.
-fn merge_tail(rec: &[u8], p: Parts, slots: &mut [u32], count: usize, begin: Merged) -> usize
-    requires { Opened p.u p.block rec.now p × (begin.kept ≤ begin.next) × (begin.next ≤ count) × (count ≤ length slots.old) × Ascends p.u p.cut (part slots.old begin.next count) }
-    ensures { Front (whole (slots_from p.u p.block rec.now 0) count begin.kept begin.next slots.old) result slots.new }
+#[tactic(auto, using(crate::proofs::Joining::tails))]
+fn merge_tail(list: &Held<'_>, slots: &mut [u32], begin: Merged) -> usize
+    requires { (begin.next ≤ length slots.old) × Ascends list.now.parts.u list.now.parts.cut (part slots.old begin.next (length slots.old)) }
+    ensures { Front (comes_to list.now begin slots.old) result slots.new }
 {
-    if p.m == 0 {
+    if list.parts.m == 0 {
         return begin.kept;
     }
-    if count <= begin.next {
+    if slots.len() <= begin.next {
         return begin.kept;
     }
     let mut marks = no_marks();
-    merge_blocks(rec, p, &mut marks, slots, count, begin)
+    merge_blocks(list, &mut marks, slots, begin)
 }
 
-// Keeps, of the first `count` slots, those that the list holds, in their order at the front. How many there are is the answer.
-pub fn merge(rec: &[u8], p: Parts, slots: &mut [u32], count: usize) -> usize
-    requires { Opened p.u p.block rec.now p × Candidates count slots.old × Ascends p.u 0 (take count slots.old) }
-    ensures { Front (keep (λ x. has x (contents p.u p.block rec.now)) (take count slots.old)) result slots.new }
+// Keeps, of the slots, those that the list holds, in their order at the front. How many there are is the answer.
+#[tactic(auto, using(crate::proofs::Joining::above_cut))]
+pub fn merge(list: &Held<'_>, slots: &mut [u32]) -> usize
+    requires { Candidates (length slots.old) slots.old × Ascends list.now.parts.u 0 slots.old }
+    ensures { Front (keep (λ x. has x (slots_of list.now)) slots.old) result slots.new }
 {
-    let from = p.from;
-    let told = merge_bits(&rec[12..from], p.cut, slots, count);
-    merge_tail(rec, p, slots, count, told)
+    let told = merge_bits(list.bits(), list.parts.cut, slots);
+    merge_tail(list, slots, told)
 }

@@ -1,28 +1,20 @@
 -- The record of a name of an accepted index: it lies within the index and has no fault. And the counts of all names, one after the other.
-use Prim.Native.Nat.{ℕ, ◌+◌, ◌≤◌, ◌<◌}
+use Prim.Native.Nat.{ℕ, ◌+◌, ◌*◌, ◌≤◌, ◌<◌}
 use mathlib.Core.Path.{◌≡◌, refl, sym, ap, ◌∙◌}
 use mathlib.Core.List.{List, [], ◌∷◌, ◌++◌, map}
 use native.Mathlib.Numerals.{add-one}
 use native.Mathlib.Omega.{arith}
 use lib.ListN.{length, get_or, take, set, length-set}
 use lib.Seq.{take-suc, take-suc-set, take_all}
-use Rattle.paper.specs.Lists.{has, keep}
 use Rattle.paper.specs.Bytes.{part, ceil_div}
 use Rattle.paper.specs.Record.{cut_of, tail_count, record_fault}
-use Rattle.paper.specs.Held.{contents, count_of, listed}
+use Rattle.paper.specs.Held.{count_of}
 use Rattle.paper.specs.Index.{u_of, block_length, k_of, start_of, record_of}
 use Rattle.paper.specs.Look.{look}
-use Rattle.paper.specs.Walk.{walk_list}
 use Rattle.paper.specs.Ask.{named}
 use Rattle.laws.proofs.Frames.{Accepted, looked, start_apart, start_within}
 use Rattle.laws.proofs.Questions.{counts_many, count_at}
-use Rattle.meaning.proofs.Rising.{Ascends}
-use Rattle.record.specs.declared.Parts.{Parts}
-use Rattle.record.specs.Front.{Front}
 use Rattle.record.proofs.Opening.{bytes_inside, count_small}
-use Rattle.skips.specs.declared.Walked.{Walked}
-use Rattle.skips.specs.Walks.{Walks}
-use Rattle.plain.specs.Sifted.{plainly}
 use Rattle.names.specs.Asked.{Asked}
 
 -- an index that looking accepts
@@ -30,9 +22,21 @@ module _ (bs : List ℕ) (ok : (look bs).number ≡ 0) where
   accepts : Accepted bs
   accepts = looked bs ok
 
+  -- it has a trailer
+  pub trailer_held : 24 ≤ length bs
+  trailer_held = accepts.frame.least
+
+  -- and a directory before it
+  pub directory_held : 24 + 4 * k_of bs ≤ length bs
+  directory_held = let s = accepts.frame.sum in omega arith
+
   -- u is at most 1,048,576
   pub u_small : (u : ℕ) → u ≡ u_of bs → u ≤ 1048576
   u_small u is = rw is accepts.frame.most_u
+
+  -- B is not 0
+  pub block_some : (B : ℕ) → B ≡ block_length bs → 0 < B
+  block_some B is = rw is accepts.frame.some_b
 
   module _ (name : ℕ) (l : name < k_of bs) where
     -- a record lies from a to e
@@ -62,35 +66,6 @@ module _ (bs : List ℕ) (ok : (look bs).number ≡ 0) where
       -- its slots are few
       pub sum_small : cut_of r + tail_count r ≤ 1048576
       sum_small = count_small (u_of bs) (block_length bs) r (record_sound (u_of bs) (block_length bs) refl refl) accepts.frame.some_b accepts.frame.most_u
-
-      -- there is room for them
-      pub count_fits : (n : ℕ) → count_of (record_of bs name) ≤ n → count_of r ≤ n
-      count_fits n h = rw isR h
-
-      -- the parts say u and B as the index does
-      module _ (u B : ℕ) (isU : u ≡ u_of bs) (is_b : B ≡ block_length bs) (p : Parts) (pu : p.u ≡ u) (pB : p.block ≡ B) where
-        -- its slots are gathered
-        pub gathered : (n : ℕ) (s : List ℕ) → Front (contents p.u p.block r) n s → Front (contents (u_of bs) (block_length bs) (record_of bs name)) n s
-        gathered n s f = rw (pu, pB, isU, is_b, isR) at f
-
-        -- candidates walk through it
-        pub walked : (xs : List ℕ) (w : Walked) (s : List ℕ) → Walks (walk_list (listed p.u p.block r) 0 xs) w s
-            → Walks (walk_list (listed (u_of bs) (block_length bs) (record_of bs name)) 0 xs) w s
-        walked xs w s f = rw (pu, pB, isU, is_b, isR) at f
-
-        -- or are merged with it
-        pub merged : (xs : List ℕ) (n : ℕ) (s : List ℕ) → Front (plainly (listed p.u p.block r) xs) n s
-            → Front (plainly (listed (u_of bs) (block_length bs) (record_of bs name)) xs) n s
-        merged xs n s f = rw (pu, pB, isU, is_b, isR) at f
-
-        -- they rise up to the u of the parts as they do up to that of the index
-        pub rising : (xs : List ℕ) → Ascends (u_of bs) 0 xs → Ascends p.u 0 xs
-        rising xs a = rw (pu, isU) a
-
-        -- or, where they rise, those that it holds are kept
-        pub kept_of_name : (xs : List ℕ) (n : ℕ) (s : List ℕ) → Front (keep (λ x. has x (contents p.u p.block r)) xs) n s
-            → Front (keep (λ x. has x (contents (u_of bs) (block_length bs) (record_of bs name))) xs) n s
-        kept_of_name xs n s f = rw (pu, pB, isU, is_b, isR) at f
 
 -- Counting: of the names, i are counted
 pub record Counting (bs names : List ℕ) (size : ℕ) (counts : List ℕ) (i : ℕ) : Type 0 where

@@ -1,17 +1,21 @@
 -- The slots to be written, one after the other: those that are good, and those that lie up to the cut.
-use Prim.Native.Nat.{ℕ, zero, suc, ◌+◌, ◌-◌, ◌/◌, ◌≤◌, ◌<◌}
-use mathlib.Core.Path.{◌≡◌, refl, sym, ap, ◌∙◌}
+use Prim.Native.Nat.{ℕ, zero, suc, ◌+◌, ◌-◌, ◌≤◌, ◌<◌}
+use mathlib.Core.Path.{◌≡◌, refl, sym}
 use mathlib.Core.Bool.{Bool, true, false}
 use mathlib.Core.List.{List, [], ◌∷◌}
-use native.Mathlib.Decide.{dec_le, ℕ_discrete}
+use native.Mathlib.Decide.{dec_le}
 use native.Mathlib.Omega.{arith}
 use lib.Dec.{ltb, leb}
 use lib.ListN.{length, get_or, drop}
-use borrow.Author.Tests.{lt-ltb, le-ltb, le-leb, lt-leb, leb-false, ltb-false}
-use Rattle.paper.specs.Lists.{pick, keep, bit_of}
+use Rattle.std.specs.List.Sorted.{IsPartitionedBy, IsPartitionPoint}
+use Rattle.std.proofs.lemmas.List.{get_or_default}
+use borrow.Author.Tests.{lt-ltb, le-ltb, le-leb, lt-leb, leb-false, leb-true, ltb-false}
+use Rattle.paper.specs.Lists.{pick, keep}
 use Rattle.paper.specs.Refusal.{verdict, accepted, good_slots, fault4, fault13, fault15}
 use Rattle.laws.proofs.Parts.{front, nothing}
 use Rattle.laws.proofs.Frames.{one_up, failed, within_passed}
+use Rattle.laws.proofs.Links.{write_links}
+use Rattle.laws.proofs.Faults.{told_on}
 use Rattle.meaning.proofs.Rising.{Ascends, rise_higher, rise_at, rise_length, good_all}
 use Rattle.meaning.proofs.Parting.{up_to, low_yes, low_no, none_low}
 use Rattle.pack.specs.Measures.{RisesTo, before_room, Judged}
@@ -78,27 +82,6 @@ pub record Falls (slots : List ℕ) (i count : ℕ) : Type 0 where
   pub few : count ≤ i
   pub rises : count ≡ 0 → RisesTo slots i
 
--- at first
-pub falls_begin : (slots : List ℕ) → Falls slots 1 0
-falls_begin slots = record { some = omega arith; few = omega arith; rises = λ z. record { each = λ k h. absurd (omega arith) } }
-
-module _ {slots : List ℕ} {i count : ℕ} (h : Falls slots i count) where
-  -- one more
-  pub falls_turn : (more : ℕ) → more ≡ bit_of (leb (get_or slots i 0) (get_or slots (i - 1) 0)) → more ≤ 1 → Falls slots (i + 1) (count + more)
-  falls_turn more is l =
-      let s = h.some in
-      let f = h.few in
-      record { some = omega arith; few = omega arith; rises = λ z. record { each = λ k b. go z k b (ℕ_discrete k (i - 1)) (leb (get_or slots i 0) (get_or slots (i - 1) 0)) refl } }
-    where
-      go : count + more ≡ 0 → (k : ℕ) → suc k < i + 1 → Dec (k ≡ i - 1) → (t : Bool) → leb (get_or slots i 0) (get_or slots (i - 1) 0) ≡ t → get_or slots k 0 < get_or slots (suc k) 0
-      go z k b (no n) t e = (h.rises (omega arith)).each k (omega (arith, n, h.some))
-      go z k b (yes q) true e = let o : more ≡ 1 = is ∙ ap bit_of e in absurd (omega arith)
-      go z k b (yes q) false e = let n : suc k ≡ i = omega (arith, h.some) in rw (n, q) (leb-false _ _ e)
-
-  -- all
-  pub falls_end : length slots ≤ i → count ≡ 0 → RisesTo slots (length slots)
-  falls_end l z = record { each = λ k b. (h.rises z).each k (omega arith) }
-
 -- they rise, if the first is not 0 and the last is not above u
 pub rises_all : (u n : ℕ) (slots : List ℕ) → n ≡ length slots → ¬ (n ≡ 0) → ¬ (get_or slots 0 0 ≡ 0) → get_or slots (n - 1) 0 ≤ u → RisesTo slots (length slots) → Ascends u 0 slots
 rises_all u n slots is some f l r = ascending u 0 slots (λ z. omega (arith, f)) (λ k b. r.each k b) (λ k e. let i : n - 1 ≡ k = omega arith in rw i at l)
@@ -126,6 +109,9 @@ all_good u prev (x ∷ xs) l = go (leb x prev) refl (ltb u x) refl (all_good u x
     go true p t q on l = absurd (omega arith)
     go false p true q on l = absurd (omega arith)
     go false p false q on l = (leb-false _ _ p, ltb-false _ _ q, on (omega arith))
+
+-- the links of 4, 15 and 13
+pub ruleset writings = (write_links, told_on)
 
 -- where 4, 15 and 13 refuse nothing, the record can be measured and written
 pub judged : (u B cut : ℕ) (slots : List ℕ) → (before_room u B cut slots).number ≡ 0 → Judged B cut slots
@@ -160,12 +146,6 @@ more_low cut u p (suc i) (x ∷ xs) r l g =
     let b = rise_at u x i xs r.2 (omega arith) (get_or xs i 0) refl in
     rw (low_yes cut x xs (omega (arith, b.0))) (omega (arith, more_low cut u x i xs r.2 (omega arith) g))
 
--- So many slots lie up to the cut: `low` at least, and `high` at most
-pub record Between (cut : ℕ) (slots : List ℕ) (low high : ℕ) : Type 0 where
-  pub least : low ≤ length (up_to cut slots)
-  pub most : length (up_to cut slots) ≤ high
-  pub inside : high ≤ length slots
-
 -- no more of a list are kept than it has
 up_to_few : (cut : ℕ) (xs : List ℕ) → length (up_to cut xs) ≤ length xs
 unfolding keep
@@ -176,63 +156,32 @@ up_to_few cut (x ∷ xs) = more (dec_le x cut) (up_to_few cut xs)
     more (yes h) e = rw (low_yes cut x xs h) (omega arith)
     more (no n) e = rw (low_no cut x xs (omega arith)) (omega arith)
 
--- at first
-pub between_all : (cut : ℕ) (slots : List ℕ) → Between cut slots 0 (length slots)
-between_all cut slots = record { least = omega arith; most = up_to_few cut slots; inside = omega arith }
+-- one that lies up to the cut has none before it that does not
+pub parted_by : (cut : ℕ) (slots : List ℕ) → Ascends 1048576 0 slots → IsPartitionedBy (λ x. leb x cut) slots
+parted_by cut slots r i j d l b h =
+    go (dec_le (get_or slots i 0) cut)
+  where
+    go : Dec (get_or slots i 0 ≤ cut) → leb (get_or slots i d) cut ≡ true
+    go (yes a) = rw (get_or_default slots i d 0 (omega arith)) (le-leb _ _ a)
+    go (no n) =
+        let high = more_low cut 1048576 0 j slots r b (rw (get_or_default slots j d 0 b) at (leb-true _ _ h)) in
+        absurd (omega (arith, high, few_low cut 1048576 0 i slots r (omega arith) (omega arith)))
 
-module _ {cut : ℕ} {slots : List ℕ} {low high : ℕ} (h : Between cut slots low high) where
-  -- where the two meet
-  pub between_none : high ≤ low → low ≡ length (up_to cut slots)
-  between_none l = omega (arith, h.least, h.most)
+-- where those before place i lie up to the cut and the others do not, so many do
+pub point_is : (cut : ℕ) (slots : List ℕ) (i : ℕ) → Ascends 1048576 0 slots → i ≤ length slots
+    → IsPartitionPoint (λ x. leb x cut ≡ true) (λ x. leb x cut ≡ false) slots i → i ≡ length (up_to cut slots)
+point_is cut slots i r b p =
+    let low : i ≤ length (up_to cut slots) = least (dec_le 1 i) in
+    let high : length (up_to cut slots) ≤ i = most (dec_le (length slots) i) in
+    omega arith
+  where
+    least : Dec (1 ≤ i) → i ≤ length (up_to cut slots)
+    least (yes a) =
+        let before = leb-true _ _ (p.0 (i - 1) 0 (omega arith) (omega arith)) in
+        let n : i - 1 + 1 ≤ length (up_to cut slots) = more_low cut 1048576 0 (i - 1) slots r (omega arith) before in
+        omega arith
+    least (no n) = omega arith
 
-  module _ (r : Ascends 1048576 0 slots) (l : low < high) where
-    abbrev mid : ℕ
-    mid = low + (high - low) / 2
-
-    -- the one in the middle lies above the cut
-    pub between_low : cut < get_or slots mid 0 → Between cut slots low mid
-    between_low g =
-        let i = h.inside in
-        record { least = h.least; most = few_low cut 1048576 0 mid slots r (omega arith) g; inside = omega arith }
-
-    -- or up to it
-    pub between_high : get_or slots mid 0 ≤ cut → Between cut slots (mid + 1) high
-    between_high g =
-        let i = h.inside in
-        record { least = more_low cut 1048576 0 mid slots r (omega arith) g; most = h.most; inside = i }
-
--- all of these
-pub ruleset betweens = (between_all, between_none, between_low, between_high)
-
--- The slots before position i lie up to the cut, and the count is that of those behind, and i
-pub record Low (cut : ℕ) (slots : List ℕ) (i : ℕ) : Type 0 where
-  pub inside : i ≤ length slots
-  pub same : i + length (up_to cut (drop i slots)) ≡ length (up_to cut slots)
-
--- at first
-pub low_begin : (cut : ℕ) (slots : List ℕ) → Low cut slots 0
-low_begin cut slots = record { inside = omega arith; same = omega arith }
-
-module _ {cut : ℕ} {slots : List ℕ} {i : ℕ} (h : Low cut slots i) where
-  -- all do
-  pub low_end : length slots ≤ i → i ≡ length (up_to cut slots)
-  unfolding keep
-  low_end l = let e = rw (nothing slots i l) at h.same in omega arith
-
-  module _ (l : i < length slots) (x : ℕ) (is : x ≡ get_or slots i 0) where
-    behind : i + length (up_to cut (x ∷ drop (i + 1) slots)) ≡ length (up_to cut slots)
-    behind = rw (← front slots i x l is) h.same
-
-    -- the next lies above it, and so do all behind
-    pub low_stop : Ascends 1048576 0 slots → cut < x → i ≡ length (up_to cut slots)
-    low_stop a g =
-        let b = rise_at 1048576 0 i slots a l x is in
-        let n = none_low cut 1048576 (x ∷ drop (i + 1) slots) (g, b.1, b.2) in
-        let e = rw n at behind in omega arith
-
-    -- it does too
-    pub low_turn : x ≤ cut → Low cut slots (i + 1)
-    low_turn g = let e = rw (low_yes cut x (drop (i + 1) slots) g) at behind in record { inside = omega arith; same = omega arith }
-
--- all of these
-pub ruleset lows = (low_begin, low_end, low_stop, low_turn)
+    most : Dec (length slots ≤ i) → length (up_to cut slots) ≤ i
+    most (yes a) = omega (arith, up_to_few cut slots)
+    most (no n) = few_low cut 1048576 0 i slots r (omega arith) (leb-false _ _ (p.1 i 0 (omega arith) (omega arith)))

@@ -2,7 +2,6 @@
 use Prim.Native.Nat.{ℕ, zero, suc, ◌+◌, ◌*◌, ◌≤◌, ◌<◌}
 use mathlib.Core.Path.{◌≡◌, refl, ap, ◌∙◌}
 use mathlib.Core.List.{List, [], ◌∷◌, ◌++◌}
-use native.Mathlib.Nat.{sub-zero}
 use native.Mathlib.Numerals.{add-one}
 use native.Mathlib.Omega.{arith}
 use lib.ListN.{length, get_or, take, drop, replicate}
@@ -10,7 +9,6 @@ use lib.Seq.{take_all, take-suc}
 use Rattle.paper.specs.Lists.{has}
 use Rattle.paper.specs.Write.{octet, bit_bytes}
 use Rattle.laws.proofs.Lists.{has_none, has_here, has_there, has_front, in_behind}
-use Rattle.laws.proofs.Clearing.{Cleared, none_left, one_more}
 use Rattle.laws.proofs.Octets.{bits_length}
 use Rattle.meaning.proofs.Rising.{Ascends, rise_at}
 use Rattle.words.specs.Marks.{with_bit}
@@ -23,13 +21,10 @@ unfolding bit_bytes octet has
 zeros zero x = refl
 zeros (suc k) x = ap (λ (l : List ℕ). 0 ∷ l) (zeros k (x + 8))
 
--- CLEARING: at first all is left
-pub blank_begin : (bits : List ℕ) → Cleared (bits_for [] (length bits)) (length bits) bits 0
+-- bytes that are all cleared have no bit
+pub cleared : (bits bits₁ : List ℕ) → (((y : ℕ) → y ≡ 0 → y ≡ 0) → bits₁ ≡ replicate (length bits) 0) → bits₁ ≡ bits_for [] (length bits)
 unfolding bits_for
-blank_begin bits = record { long = refl; inside = omega arith; same = rw sub-zero (zeros (length bits) 1) }
-
--- all of clearing
-pub ruleset blanks = (blank_begin, none_left, one_more)
+cleared bits bits₁ e = e (λ y h. h) ∙ zeros (length bits) 1
 
 -- MARKING: the bits of the first i slots are set, in k bytes
 pub record Marked (low : List ℕ) (k : ℕ) (bits : List ℕ) (i : ℕ) : Type 0 where

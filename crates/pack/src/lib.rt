@@ -2,11 +2,12 @@
 // paper's: slots up to the cut go into bits, those above it into the tail, in blocks of `block` slots.
 #![tactic(auto)]
 
-ghost use Rattle.std.specs.Prelude.{◌≡◌, ◌+◌, ◌*◌, ◌-◌, ◌≤◌, ◌<◌, min, [], ◌++◌, length};
+ghost use Rattle.std.specs.Prelude.{◌≡◌, ◌+◌, ◌*◌, ◌≤◌, ◌<◌, false, [], ◌++◌, length};
 ghost use Rattle.std.proofs.lemmas.List.Edits.{sets};
 ghost use Rattle.paper.specs.Lists.{on_front};
 ghost use Rattle.paper.specs.Bytes.{u32_bytes};
 ghost use Rattle.paper.specs.Refusal.{good_slots};
+ghost use Rattle.paper.specs.Fault.{told};
 ghost use Rattle.paper.specs.Write.{gap_codes, skip_entries, encode};
 ghost use Rattle.meaning.proofs.Rising.{Ascends};
 ghost use Rattle.meaning.proofs.Parting.{up_to};
@@ -14,143 +15,95 @@ ghost use Rattle.pack.specs.Measures.{RisesTo, before_room, bits_for, blocks_for
 
 use codes::{code_size, put_code};
 use frame::check_sizes;
-use paper::Verdict;
+use paper::refusal::{Fault, Refusal};
 use record::ceil;
-use words::{one, put_bit, put_u32};
+use words::{put_bit, put_u32};
 
-// How many slots are not above the one before. There is no way out of the loop but its end, so that the compiler holds several slots at once against those before them.
+// How many slots are not above the one before. There is no way out of the loop but its end, so that the compiler holds several slots at once
+// against those before them.
+// Kept: `windows(2)` and `zip` were tried; their loops take a quarter longer than this one, and with `filter` they go slot by slot.
 fn falls(slots: &[u32]) -> usize
     ensures { result ≡ 0 → RisesTo slots.now (length slots.now) }
 {
-    let n = slots.len();
     let mut count: usize = 0;
-    let mut i: usize = 1;
-    while i < n {
-        let last = slots[i - 1];
-        count = count + one(slots[i] <= last);
-        i = i + 1;
+    for i in 1..slots.len() {
+        count += usize::from(slots[i] <= slots[i - 1]);
     }
     count
 }
 
-// 0 where all slots rise within 1..u; any other number tells that some do not, and no more.
-fn amiss(slots: &[u32], u: u32) -> usize
-    ensures { result ≡ 0 → Ascends u 0 slots.now }
+// Whether some slot does not rise within 1..u. The ends are looked at first, then what lies between them.
+fn amiss(slots: &[u32], u: u32) -> bool
+    ensures { result ≡ false → Ascends u 0 slots.now }
 {
     let n = slots.len();
-    if n == 0 {
-        return 0;
-    }
-    if slots[0] == 0 {
-        return 1;
-    }
-    if u < slots[n - 1] {
-        return 1;
-    }
-    falls(slots)
+    n != 0 && (slots[0] == 0 || u < slots[n - 1] || falls(slots) != 0)
 }
 
 // How many slots at the front rise, each above the one before, within 1..u: one by one.
+#[tactic(auto, using(crate::proofs::Judging::goods))]
 fn good_front(slots: &[u32], u: u32) -> usize
     ensures { (result ≡ good_slots u 0 slots.now) × (result ≤ u) }
 {
     let mut prev: u32 = 0;
-    let mut i: usize = 0;
-    while i < slots.len() {
-        let x = slots[i];
-        if x <= prev {
+    for (i, x) in slots.iter().enumerate() {
+        if *x <= prev || u < *x {
             return i;
         }
-        if u < x {
-            return i;
-        }
-        prev = x;
-        i = i + 1;
+        prev = *x;
     }
-    i
+    slots.len()
 }
 
 // The same, all at once where all do.
 fn good_slots(slots: &[u32], u: u32) -> usize
     ensures { (result ≡ good_slots u 0 slots.now) × (result ≤ u) }
 {
-    let bad = amiss(slots, u);
-    if bad == 0 {
-        return slots.len();
+    if amiss(slots, u) {
+        return good_front(slots, u);
     }
-    good_front(slots, u)
+    slots.len()
 }
 
 // The refusals of writing but 12: 4, 15, 13.
-pub fn check_write(u: u32, block: u32, cut: u32, slots: &[u32]) -> Verdict
-    ensures { result ≡ before_room u block cut slots.now }
+#[tactic(auto, using(crate::proofs::Judging::writings))]
+pub fn check_write(u: u32, block: u32, cut: u32, slots: &[u32]) -> Result<(), Refusal>
+    ensures { told result ≡ before_room u block cut slots.now }
 {
-    let sizes = check_sizes(u, block);
-    if sizes != 0 {
-        return Verdict {
-            number: sizes,
-            place: 0,
-        };
-    }
+    check_sizes(u, block)?;
     if u < cut {
-        return Verdict {
-            number: 15,
-            place: 0,
-        };
+        return Err(Fault::Cut.into());
     }
     let good = good_slots(slots, u);
     let place = good as u32;
     if good < slots.len() {
-        return Verdict { number: 13, place };
+        return Err(Refusal {
+            fault: Fault::Rising,
+            place,
+        });
     }
-    Verdict {
-        number: 0,
-        place: 0,
-    }
+    Ok(())
 }
 
-// How many slots lie up to the cut. They stand at the front, since all slots rise: so many are `low` at least and `high` at most, and the one in the middle tells.
+// How many slots lie up to the cut. They stand at the front, since all slots rise.
 fn slots_to(slots: &[u32], cut: u32) -> usize
     requires { Ascends 1048576 0 slots.now }
     ensures { result ≡ length (up_to cut slots.now) }
 {
-    let mut low: usize = 0;
-    let mut high = slots.len();
-    while low < high {
-        let mid = low + (high - low) / 2;
-        if cut < slots[mid] {
-            high = mid;
-        } else {
-            low = mid + 1;
-        }
-    }
-    low
-}
-
-// Where the block ends that begins with slot i of n: `block` slots on, or with the last slot.
-fn block_to(i: usize, block: u32, n: usize) -> usize
-    requires { i ≤ n }
-    ensures { result ≡ i + min block (n - i) }
-{
-    if n - i <= block as usize {
-        return n;
-    }
-    i + block as usize
+    slots.partition_point(|x| *x <= cut)
 }
 
 // How many bytes the codes of the slots behind `prev` take.
+#[tactic(auto, using(crate::proofs::Gaps::measures))]
 fn gaps_size(prev: u32, slots: &[u32]) -> usize
     requires { (prev ≤ 1048576) × Ascends 1048576 prev slots.now }
     ensures { (result ≡ length (gap_codes prev slots.now)) × (result ≤ 3 * length slots.now) }
 {
     let mut last = prev;
     let mut size: usize = 0;
-    let mut i: usize = 0;
-    while i < slots.len() {
-        let x = slots[i];
-        size = size + code_size(x - last - 1);
+    for &x in slots {
+        size += code_size(x - last - 1);
         last = x;
-        i = i + 1;
     }
     size
 }
@@ -161,12 +114,8 @@ fn tail_size(high: &[u32], block: u32) -> usize
     ensures { (result ≡ length (tail_codes block high.now)) × (result ≤ 3 * length high.now) }
 {
     let mut size: usize = 0;
-    let mut i: usize = 0;
-    while i < high.len() {
-        let first = high[i];
-        let end = block_to(i, block, high.len());
-        size = size + gaps_size(first, &high[i + 1..end]);
-        i = end;
+    for slots in high.chunks(block as usize) {
+        size += gaps_size(slots[0], &slots[1..]);
     }
     size
 }
@@ -200,6 +149,7 @@ pub fn lay_out(block: u32, cut: u32, slots: &[u32]) -> Layout
 }
 
 // Writes the head: the cut, the tail count and the code length.
+#[tactic(auto, using(crate::proofs::Laying::three_words))]
 fn put_head(room: &mut [u8], cut: u32, n: u32, len: u32)
     requires { 12 ≤ length room.old }
     ensures { room.new ≡ sets room.old 0 (u32_bytes cut ++ u32_bytes n ++ u32_bytes len) }
@@ -209,26 +159,14 @@ fn put_head(room: &mut [u8], cut: u32, n: u32, len: u32)
     put_u32(room, 8, len);
 }
 
-// Clears every bit.
-fn blank(bits: &mut [u8])
-    ensures { bits.new ≡ bits_for [] (length bits.old) }
-{
-    let mut i: usize = 0;
-    while i < bits.len() {
-        bits[i] = 0;
-        i = i + 1;
-    }
-}
-
 // Sets the bits of these slots, where none is set.
+#[tactic(auto, using(crate::proofs::Marking::marks))]
 fn mark(bits: &mut [u8], low: &[u32])
     requires { (bits.old ≡ bits_for [] (length bits.old)) × Ascends (8 * length bits.old) 0 low.now }
     ensures { bits.new ≡ bits_for low.now (length bits.old) }
 {
-    let mut i: usize = 0;
-    while i < low.len() {
-        put_bit(bits, low[i]);
-        i = i + 1;
+    for &x in low {
+        put_bit(bits, x);
     }
 }
 
@@ -237,28 +175,27 @@ fn put_bits(bits: &mut [u8], low: &[u32])
     requires { Ascends (8 * length bits.old) 0 low.now }
     ensures { bits.new ≡ bits_for low.now (length bits.old) }
 {
-    blank(bits);
+    bits.fill(0);
     mark(bits, low);
 }
 
 // Writes the codes of the slots behind `prev` from `at` on, and tells the position behind them.
+#[tactic(auto, using(crate::proofs::Gaps::puts))]
 fn put_gaps(room: &mut [u8], at: usize, prev: u32, slots: &[u32]) -> usize
     requires { (prev ≤ 1048576) × Ascends 1048576 prev slots.now × (at + length (gap_codes prev slots.now) ≤ length room.old) }
     ensures { (result ≡ at + length (gap_codes prev slots.now)) × (room.new ≡ sets room.old at (gap_codes prev slots.now)) }
 {
     let mut last = prev;
     let mut to = at;
-    let mut i: usize = 0;
-    while i < slots.len() {
-        let x = slots[i];
+    for &x in slots {
         to = put_code(room, to, x - last - 1);
         last = x;
-        i = i + 1;
     }
     to
 }
 
 // Writes a skip entry: the first slot of a block, and where its codes begin among the code bytes.
+#[tactic(auto, using(crate::proofs::Laying::two_words))]
 fn put_entry(room: &mut [u8], at: usize, first: u32, offset: u32)
     requires { at + 8 ≤ length room.old }
     ensures { room.new ≡ sets room.old at (u32_bytes first ++ u32_bytes offset) }
@@ -274,15 +211,11 @@ fn put_tail(room: &mut [u8], entries: usize, codes: usize, block: u32, high: &[u
 {
     let mut entry = entries;
     let mut at = codes;
-    let mut i: usize = 0;
-    while i < high.len() {
-        let first = high[i];
-        let end = block_to(i, block, high.len());
+    for slots in high.chunks(block as usize) {
         let offset = (at - codes) as u32;
-        put_entry(room, entry, first, offset);
-        at = put_gaps(room, at, first, &high[i + 1..end]);
-        entry = entry + 8;
-        i = end;
+        put_entry(room, entry, slots[0], offset);
+        at = put_gaps(room, at, slots[0], &slots[1..]);
+        entry += 8;
     }
 }
 

@@ -1,4 +1,5 @@
 -- The paper's examples held against the definitions, by computation. Every table is a list of rows under one claim: no row fails.
+pub mod Faults
 pub mod Hex
 pub mod Open
 pub mod Rows

@@ -6,6 +6,7 @@ pub mod Code
 pub mod Block
 pub mod Tail
 pub mod Record
+pub mod Fault
 pub mod Held
 pub mod Refusal
 pub mod Index

@@ -1,5 +1,5 @@
 -- Choice by a test, and plain words on lists of numbers. The paper takes these for granted; nothing of the format is said here.
-use Rattle.std.specs.Prelude.{ℕ, zero, suc, ◌+◌, Bool, true, false, ◌&&◌, ◌||◌, List, [], ◌∷◌, ◌++◌, length, drop, leb, eqb}
+use Rattle.std.specs.Prelude.{ℕ, zero, suc, ◌+◌, Bool, true, false, ◌&&◌, ◌||◌, List, [], ◌∷◌, ◌++◌, length, drop, leb, eqb, Option, Some, None}
 
 -- a where the test passes, else b. A branch that may be long, or that goes by numbers not yet checked, is bound by a `let` first
 abbrev pub pick : {A : Type 0} → Bool → A → A → A
@@ -9,6 +9,11 @@ pick false a b = b
 -- a test as a number: 1 where it passes, else 0
 abbrev pub bit_of : Bool → ℕ
 bit_of t = pick t 1 0
+
+-- a slot as the code hands it on: none where the paper says 0
+abbrev pub some_slot : ℕ → Option ℕ
+some_slot zero = None
+some_slot (suc s) = Some (suc s)
 
 -- x stands among them
 unfoldable pub has : ℕ → List ℕ → Bool

@@ -1,7 +1,11 @@
-// The answers of the public operations, as plain structs. Which answer an operation gives is said by the definitions in specs/;
-// there is no code here.
+// The answers of the public operations, as plain structs, and what may be refused inside of them. Which answer an operation gives is said by the definitions in
+// specs/; the only code here tells the numbers.
 // Every answer has a number, 0 where the operation accepts, and a place. On refusal every other field is 0 or false.
+// Kept: a number and a place in each answer, and a struct for each operation. `MeetsLook`, `MeetsAsk` and the others and the theorems of `promises` speak of
+// these fields, and the C interface hands them on. Inside the library a refusal goes by name (`refusal`).
 #![tactic(auto)]
+
+pub mod refusal;
 
 #[derive(Drop)]
 pub struct Verdict {

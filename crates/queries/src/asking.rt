@@ -1,32 +1,32 @@
 // Questions to the paper's index.
 use sheet::make::PAPER;
-use sheet::show::{end, label, places, refusal, slots, value};
+use sheet::show::{end, values};
 use slots::ask;
 use std::io;
 
 // The line of a question whose answer goes to `room`.
+// Kept: the way comes as a number, here and below, so that a way can be asked for that there is not.
 pub fn ask_in(
     rt: &impl Print,
-    text: &[u8],
+    text: &str,
     index: &[u8],
     way: u32,
     names: &[u32],
     room: &mut [u32],
 ) -> io::Result<()> {
     let told = ask(index, way, names, room);
-    label(rt, text)?;
-    refusal(rt, told.number, told.place)?;
-    value(rt, told.count as u64)?;
-    value(rt, told.looks)?;
-    value(rt, told.codes)?;
-    slots(rt, room, told.count as usize)?;
+    print!(rt;
+        "{text}: {} {} {} {} {}",
+        told.number, told.place, told.count, told.looks, told.codes
+    )?;
+    values(rt, room.get(..told.count as usize).unwrap_or(&[]))?;
     end(rt)
 }
 
 // The line of a question with room for 64 slots.
 pub fn ask_64(
     rt: &impl Print,
-    text: &[u8],
+    text: &str,
     index: &[u8],
     way: u32,
     names: &[u32],
@@ -38,26 +38,23 @@ pub fn ask_64(
 // The line of what each name of a question costs: all places of looks, then all of codes.
 fn costs_in(
     rt: &impl Print,
-    text: &[u8],
+    text: &str,
     index: &[u8],
     way: u32,
     names: &[u32],
     room: &mut [u32],
 ) -> io::Result<()> {
     let told = ask(index, way, names, room);
-    label(rt, text)?;
-    refusal(rt, told.number, told.place)?;
-    let looks = told.looks16;
-    places(rt, looks)?;
-    let codes = told.codes16;
-    places(rt, codes)?;
+    print!(rt; "{text}: {} {}", told.number, told.place)?;
+    values(rt, &told.looks16)?;
+    values(rt, &told.codes16)?;
     end(rt)
 }
 
 // The same with room for 64 slots.
 pub fn costs_64(
     rt: &impl Print,
-    text: &[u8],
+    text: &str,
     index: &[u8],
     way: u32,
     names: &[u32],
@@ -70,12 +67,12 @@ pub fn costs_64(
 fn names(rt: &impl Print) -> io::Result<()> {
     let p = PAPER;
     let both = [0u32, 1, 0, 1, 0, 1, 0, 1, 0, 1, 0, 1, 0, 1, 0, 1, 0];
-    ask_64(rt, b"16 names", &p, 1, &both[..16])?;
-    ask_64(rt, b"17 names", &p, 1, &both)?;
-    ask_64(rt, b"17 names, way 2", &p, 2, &both)?;
-    ask_64(rt, b"way 2", &p, 2, &both[..2])?;
-    ask_64(rt, b"no names, way 0", &p, 0, &both[..0])?;
-    ask_64(rt, b"names 0 2 1 2", &p, 1, &[0, 2, 1, 2])
+    ask_64(rt, "16 names", &p, 1, &both[..16])?;
+    ask_64(rt, "17 names", &p, 1, &both)?;
+    ask_64(rt, "17 names, way 2", &p, 2, &both)?;
+    ask_64(rt, "way 2", &p, 2, &both[..2])?;
+    ask_64(rt, "no names, way 0", &p, 0, &both[..0])?;
+    ask_64(rt, "names 0 2 1 2", &p, 1, &[0, 2, 1, 2])
 }
 
 // Room, and lists named twice.
@@ -83,33 +80,33 @@ fn paper(rt: &impl Print) -> io::Result<()> {
     let p = PAPER;
     let mut six = [0u32; 6];
     let mut none = [0u32; 0];
-    ask_in(rt, b"room 6, way 0", &p, 0, &[0, 1], &mut six)?;
-    ask_in(rt, b"room 0, name 1", &p, 1, &[1], &mut none)?;
-    ask_64(rt, b"names 0 1, way 0", &p, 0, &[0, 1])?;
-    ask_64(rt, b"names 1 0 0", &p, 1, &[1, 0, 0])?;
-    ask_64(rt, b"names 1 1", &p, 1, &[1, 1])
+    ask_in(rt, "room 6, way 0", &p, 0, &[0, 1], &mut six)?;
+    ask_in(rt, "room 0, name 1", &p, 1, &[1], &mut none)?;
+    ask_64(rt, "names 0 1, way 0", &p, 0, &[0, 1])?;
+    ask_64(rt, "names 1 0 0", &p, 1, &[1, 0, 0])?;
+    ask_64(rt, "names 1 1", &p, 1, &[1, 1])
 }
 
 // Which list cost what: by position, whatever the order of the lists is.
 fn positions(rt: &impl Print) -> io::Result<()> {
     let p = PAPER;
     let both = [0u32, 1, 0, 1, 0, 1, 0, 1, 0, 1, 0, 1, 0, 1, 0, 1, 0];
-    costs_64(rt, b"costs 0 1", &p, 1, &[0, 1])?;
-    costs_64(rt, b"costs 1 0", &p, 1, &[1, 0])?;
-    costs_64(rt, b"costs 1 0 0", &p, 1, &[1, 0, 0])?;
-    costs_64(rt, b"costs 1 1", &p, 1, &[1, 1])?;
-    costs_64(rt, b"costs 0 1, way 0", &p, 0, &[0, 1])?;
-    costs_64(rt, b"costs 16 names", &p, 1, &both[..16])?;
-    costs_64(rt, b"costs 17 names", &p, 1, &both)
+    costs_64(rt, "costs 0 1", &p, 1, &[0, 1])?;
+    costs_64(rt, "costs 1 0", &p, 1, &[1, 0])?;
+    costs_64(rt, "costs 1 0 0", &p, 1, &[1, 0, 0])?;
+    costs_64(rt, "costs 1 1", &p, 1, &[1, 1])?;
+    costs_64(rt, "costs 0 1, way 0", &p, 0, &[0, 1])?;
+    costs_64(rt, "costs 16 names", &p, 1, &both[..16])?;
+    costs_64(rt, "costs 17 names", &p, 1, &both)
 }
 
 // A refusal costs nothing: too little room, and damage to list 0's last code.
 fn free(rt: &impl Print) -> io::Result<()> {
     let mut p = PAPER;
     let mut six = [0u32; 6];
-    costs_in(rt, b"costs room 6", &p, 1, &[0, 1], &mut six)?;
+    costs_in(rt, "costs room 6", &p, 1, &[0, 1], &mut six)?;
     p[54] = 0x81;
-    costs_64(rt, b"costs byte 54 is 81", &p, 1, &[0, 1])
+    costs_64(rt, "costs byte 54 is 81", &p, 1, &[0, 1])
 }
 
 // All lines of this part, in their order.

@@ -1,70 +1,67 @@
 // One list of the paper's index: a slot tested, its slots counted, where its record lies. Then one list cut in many ways, and counted.
 use sheet::make;
 use sheet::make::{PAPER, close_lists, fill, front, put_list};
-use sheet::show::{end, flag, label, refusal, value};
 use slots::{count, part, test};
 use std::io;
 
 pub fn test_slot(
     rt: &impl Print,
-    text: &[u8],
+    text: &str,
     index: &[u8],
     name: u32,
     slot: u32,
 ) -> io::Result<()> {
     let told = test(index, name, slot);
-    label(rt, text)?;
-    refusal(rt, told.number, told.place)?;
-    flag(rt, told.yes)?;
-    end(rt)
+    println!(rt;
+        "{text}: {} {} {}",
+        told.number,
+        told.place,
+        u32::from(told.yes)
+    )
 }
 
 fn tests(rt: &impl Print) -> io::Result<()> {
     let p = PAPER;
-    test_slot(rt, b"slot 32 in list 0", &p, 0, 32)?;
-    test_slot(rt, b"slot 0 in list 0", &p, 0, 0)?;
-    test_slot(rt, b"slot 33 in list 0", &p, 0, 33)?;
-    test_slot(rt, b"slot 30 in list 1", &p, 1, 30)?;
-    test_slot(rt, b"slot 1 in list 2", &p, 2, 1)
+    test_slot(rt, "slot 32 in list 0", &p, 0, 32)?;
+    test_slot(rt, "slot 0 in list 0", &p, 0, 0)?;
+    test_slot(rt, "slot 33 in list 0", &p, 0, 33)?;
+    test_slot(rt, "slot 30 in list 1", &p, 1, 30)?;
+    test_slot(rt, "slot 1 in list 2", &p, 2, 1)
 }
 
-pub fn count_list(rt: &impl Print, text: &[u8], index: &[u8], name: u32) -> io::Result<()> {
+pub fn count_list(rt: &impl Print, text: &str, index: &[u8], name: u32) -> io::Result<()> {
     let told = count(index, name);
-    label(rt, text)?;
-    refusal(rt, told.number, told.place)?;
-    value(rt, told.count as u64)?;
-    end(rt)
+    println!(rt; "{text}: {} {} {}", told.number, told.place, told.count)
 }
 
 fn counts(rt: &impl Print) -> io::Result<()> {
     let p = PAPER;
-    count_list(rt, b"count list 0", &p, 0)?;
-    count_list(rt, b"count list 1", &p, 1)?;
-    count_list(rt, b"count list 2", &p, 2)
+    count_list(rt, "count list 0", &p, 0)?;
+    count_list(rt, "count list 1", &p, 1)?;
+    count_list(rt, "count list 2", &p, 2)
 }
 
-pub fn part_of(rt: &impl Print, text: &[u8], index: &[u8], name: u32) -> io::Result<()> {
+pub fn part_of(rt: &impl Print, text: &str, index: &[u8], name: u32) -> io::Result<()> {
     let told = part(index, name);
-    label(rt, text)?;
-    refusal(rt, told.number, told.place)?;
-    value(rt, told.start as u64)?;
-    value(rt, told.length as u64)?;
-    end(rt)
+    println!(rt;
+        "{text}: {} {} {} {}",
+        told.number, told.place, told.start, told.length
+    )
 }
 
 fn parts(rt: &impl Print) -> io::Result<()> {
     let p = PAPER;
-    part_of(rt, b"part list 0", &p, 0)?;
-    part_of(rt, b"part list 1", &p, 1)?;
-    part_of(rt, b"part list 2", &p, 2)
+    part_of(rt, "part list 0", &p, 0)?;
+    part_of(rt, "part list 1", &p, 1)?;
+    part_of(rt, "part list 2", &p, 2)
 }
 
 // Damage to list 0's last code, behind the slot that is wanted and before the list that is counted.
 fn damaged(rt: &impl Print) -> io::Result<()> {
     let mut p = PAPER;
     p[54] = 0x81;
-    test_slot(rt, b"byte 54 is 81, slot 5", &p, 0, 5)?;
-    count_list(rt, b"byte 54 is 81, count list 1", &p, 1)
+    test_slot(rt, "byte 54 is 81, slot 5", &p, 0, 5)?;
+    count_list(rt, "byte 54 is 81, count list 1", &p, 1)
 }
 
 // Writes the list of every seventh slot up to 196, with the cut that is given, behind the first `at` bytes, and tells where it ends.
@@ -87,13 +84,13 @@ fn sevenths(rt: &impl Print) -> io::Result<()> {
     let starts = [0, to_64, to_71, to_72, to_127, to_128, to_196];
     let length = close_lists(&mut room, 196, 128, total, &starts);
     let index = front(&room, length);
-    count_list(rt, b"every seventh slot, cut 63", index, 0)?;
-    count_list(rt, b"every seventh slot, cut 64", index, 1)?;
-    count_list(rt, b"every seventh slot, cut 71", index, 2)?;
-    count_list(rt, b"every seventh slot, cut 72", index, 3)?;
-    count_list(rt, b"every seventh slot, cut 127", index, 4)?;
-    count_list(rt, b"every seventh slot, cut 128", index, 5)?;
-    count_list(rt, b"every seventh slot, cut 196", index, 6)
+    count_list(rt, "every seventh slot, cut 63", index, 0)?;
+    count_list(rt, "every seventh slot, cut 64", index, 1)?;
+    count_list(rt, "every seventh slot, cut 71", index, 2)?;
+    count_list(rt, "every seventh slot, cut 72", index, 3)?;
+    count_list(rt, "every seventh slot, cut 127", index, 4)?;
+    count_list(rt, "every seventh slot, cut 128", index, 5)?;
+    count_list(rt, "every seventh slot, cut 196", index, 6)
 }
 
 // All lines of this part, in their order.

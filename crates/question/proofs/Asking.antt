@@ -6,8 +6,9 @@ use native.Mathlib.Decide.{ℕ_discrete}
 use native.Mathlib.Nat.{le_refl}
 use native.Mathlib.Numerals.{add-one}
 use native.Mathlib.Omega.{arith}
-use lib.ListN.{length, get_or, take, drop, replicate, set, drop_of_length-le, length-take, length-set, get_or-replicate}
-use lib.Seq.{drop-cons, get_or-take, length-take-le, get_or-set_same, get_or-set_other}
+use lib.ListN.{length, get_or, take, drop, replicate, set, drop_of_length-le, length-set, length-append, get_or-replicate}
+use lib.Seq.{drop-cons, get_or-take, length-take-le, take-append-le, get_or-set_same, get_or-set_other}
+use Rattle.std.proofs.lemmas.List.{get_or-drop, length-drop}
 use Rattle.paper.specs.Lists.{has, keep, total, up_from}
 use Rattle.paper.specs.Record.{record_fault}
 use Rattle.paper.specs.Held.{contents, count_of, listed}
@@ -28,14 +29,8 @@ use Rattle.meaning.proofs.Charging.{charge, skips_charged, plain_costs}
 use Rattle.record.specs.Front.{Front, Candidates}
 use Rattle.skips.specs.declared.Walked.{Walked}
 use Rattle.skips.specs.Walks.{Walks}
-use Rattle.plain.specs.Sifted.{plainly}
-use Rattle.plain.proofs.Meant.{plainly_keeps}
 use Rattle.names.specs.Asked.{Asked}
 use Rattle.question.specs.Answered.{Ordered, Gathered, Answers}
-
--- a name, by its place in the order
-pub named_told : (names order : List ℕ) (r at : ℕ) → at ≡ get_or order r 0 → get_or names at 0 ≡ get_or names (get_or order r 0) 0
-named_told names order r at e = ap (λ (i : ℕ). get_or names i 0) e
 
 -- rising slots are candidates: none is 0, and there are at most u
 module _ (u n : ℕ) (s : List ℕ) (few : n ≤ length s) (rise : Ascends u 0 (take n s)) where
@@ -56,6 +51,27 @@ module _ (u n : ℕ) (s : List ℕ) (few : n ≤ length s) (rise : Ascends u 0 (
   -- they are few
   few_slots : n ≤ u
   few_slots = let e = length-take-le n s few in let r = rise_length u 0 (take n s) (omega arith) rise in omega arith
+
+-- the first n of them, taken alone
+alone : (n : ℕ) (s : List ℕ) → Candidates n s → Candidates (length (take n s)) (take n s)
+alone n s c =
+    let e = length-take-le n s c.few in
+    record { few = omega arith; some = λ i l. rw (get_or-take n s i 0 (omega arith)) (c.some i (omega arith)) }
+
+-- slots that stand at the front of a part stand there before whatever comes behind it
+front_before : (xs : List ℕ) (n : ℕ) (t d : List ℕ) → Front xs n t → Front xs n (t ++ d)
+front_before xs n t d f = let b = f.few in record { few = omega (arith, length-append t d); are = take-append-le n t d b ∙ f.are }
+
+-- and so do those that a walk leaves
+before_others : (k : Walk) (w : Walked) (t d : List ℕ) → Walks k w t → Walks k w (t ++ d)
+before_others k w t d f =
+    record {
+      slots = front_before k.kept w.count t d f.slots;
+      looks = f.looks;
+      codes = f.codes;
+      few_looks = f.few_looks;
+      few_codes = f.few_codes;
+    }
 
 -- An index and the names of a question: u, B and the records named
 module _ (index names : List ℕ) where
@@ -114,35 +130,21 @@ module _ (index names : List ℕ) where
     all_sound : AllSound u B rs
     all_sound = named_sound index names accepts a.below
 
-    -- the name that comes r-th in the order
-    module _ (order : List ℕ) (o : Ordered index names order) (r : ℕ) (l : r < length names) where
-      at_is : get_or order r 0 ≡ get_or (positions rs) r 0
-      at_is = sym (get_or-take (length names) order r 0 l) ∙ ap (λ (l : List ℕ). get_or l r 0) o
+    -- the position that comes r-th in the order
+    module _ (r : ℕ) (l : r < length names) (at : ℕ) (is : at ≡ get_or (positions rs) r 0) where
+      -- it is that of a name, and one of sixteen
+      at_below : at < length names
+      at_below = let e = as_many in rw is (let p = position_inside rs r (omega arith) in omega arith)
 
-      -- its position is that of a name
-      pub position_below : get_or order r 0 < length names
-      position_below = let e = as_many in rw at_is (let p = position_inside rs r (omega arith) in omega arith)
+      at_sixteen : at < 16
+      at_sixteen = let b = at_below in let f = a.few in omega arith
 
-      module _ (name : ℕ) (is : name ≡ get_or names (get_or order r 0) 0) where
-        -- it is one of the lists
-        pub name_below : name < k_of index
-        name_below = rw is (a.below (get_or order r 0) position_below)
+      -- the name there is one of the lists
+      at_known : get_or names at 0 < k_of index
+      at_known = a.below at at_below
 
-        the_record : record_of index name ≡ get_or (in_order rs) r []
-        the_record =
-            let e = as_many in
-            rw is (sym (named_at index names (get_or order r 0) position_below) ∙ rw at_is (sym (ordered_at rs r (omega arith))))
-
-      -- the position itself: that of a name, and one of sixteen; the name there is one of the lists
-      module _ (at : ℕ) (is : at ≡ get_or order r 0) where
-        pub at_below : at < length names
-        at_below = rw is position_below
-
-        pub at_sixteen : at < 16
-        at_sixteen = let b = at_below in let f = a.few in omega arith
-
-        pub at_known : get_or names at 0 < k_of index
-        at_known = name_below (get_or names at 0) (named_told names order r at is)
+      the_record : record_of index (get_or names at 0) ≡ get_or (in_order rs) r []
+      the_record = let e = as_many in sym (named_at index names at at_below) ∙ rw is (sym (ordered_at rs r (omega arith)))
 
     positions_many : length (positions rs) ≡ length names
     positions_many = order_length (map count_of rs) ∙ counts_many index names
@@ -182,13 +184,20 @@ module _ (index names : List ℕ) where
       pub left_candidates : Candidates n s
       left_candidates = candidates u n s h.few h.rise
 
-      -- and they rise
+      -- and so they are alone
+      pub left_alone : Candidates (length (take n s)) (take n s)
+      left_alone = alone n s left_candidates
+
+      -- they rise
       pub left_rise : Ascends u 0 (take n s)
       left_rise = h.rise
 
       -- not more than the largest u
       pub left_few : n ≤ 1048576
       left_few = let f = few_slots u n s h.few h.rise in let m = accepts.frame.most_u in omega arith
+
+      pub alone_few : length (take n s) ≤ 1048576
+      alone_few = let f = left_few in let e = length-take-le n s h.few in omega arith
 
       -- and so their number fits 32 bits
       pub left_told : n < 4294967296
@@ -200,12 +209,15 @@ module _ (index names : List ℕ) where
       left_end l = record { few = h.few; are = rw (all_gone r l) at h.same }
 
       -- the next list
-      module _ (order : List ℕ) (o : Ordered index names order) (l : r < length names) (name : ℕ) (is : name ≡ get_or names (get_or order r 0) 0) where
+      module _ (l : r < length names) (at : ℕ) (is : at ≡ get_or (positions rs) r 0) where
+        abbrev name : ℕ
+        name = get_or names at 0
+
         next : drop r (in_order rs) ≡ record_of index name ∷ drop (r + 1) (in_order rs)
-        next = let e = ordered_many in rw (the_record order o r l name is, add-one r) (drop-cons (in_order rs) r [] (omega arith))
+        next = let e = ordered_many in rw (the_record r l at is, add-one r) (drop-cons (in_order rs) r [] (omega arith))
 
         next_sound : record_fault u B (length (record_of index name)) (record_of index name) ≡ 0
-        next_sound = accepts.lists name (name_below order o r l name is)
+        next_sound = accepts.lists name (at_known r l at is)
 
         -- those that it holds are left
         pub left_turn : (t : List ℕ) (m : ℕ) → Front (keep (λ x. has x (contents u B (record_of index name))) (take n s)) m t → Left t m (r + 1)
@@ -218,10 +230,6 @@ module _ (index names : List ℕ) where
               rise = rw f.are (keep_rise _ u 0 (take n s) h.rise);
               same = rw f.are (rw next at h.same);
             }
-
-        -- a merge of any candidates
-        pub left_merged : (t : List ℕ) (m : ℕ) → Front (plainly (listed u B (record_of index name)) (take n s)) m t → Left t m (r + 1)
-        left_merged t m f = left_turn t m (rw (plainly_keeps u B _ some_b next_sound (take n s) h.rise) at f)
 
         walked : (walk_list (listed u B (record_of index name)) 0 (take n s)).kept
             ≡ keep (λ x. has x (contents u B (record_of index name))) (take n s)
@@ -290,27 +298,21 @@ module _ (index names : List ℕ) where
           places_are f (costs index 1 names) l p.sixteen
           (λ i k. let a = p.all i k in let z : charged_at f (charges_left s n r) i ≡ 0 = rw (no_charge e) (charged_none f i) in omega arith)
 
-      module _ (order : List ℕ) (o : Ordered index names order) (l : r < length names) (at : ℕ) (is : at ≡ get_or order r 0) where
-        abbrev name : ℕ
-        name = get_or names at 0
+      module _ (l : r < length names) (at : ℕ) (is : at ≡ get_or (positions rs) r 0) where
+        abbrev name₁ : ℕ
+        name₁ = get_or names at 0
 
-        told : name ≡ get_or names (get_or order r 0) 0
-        told = named_told names order r at is
-
-        placed : at ≡ get_or (positions rs) r 0
-        placed = is ∙ at_is order o r l
-
-        module _ (t : List ℕ) (w : Walked) (f : Walks (walk_list (listed u B (record_of index name)) 0 (take n s)) w t) where
+        module _ (t : List ℕ) (w : Walked) (f : Walks (walk_list (listed u B (record_of index name₁)) 0 (take n s)) w t) where
           abbrev walk : Walk
-          walk = walk_list (listed u B (record_of index name)) 0 (take n s)
+          walk = walk_list (listed u B (record_of index name₁)) 0 (take n s)
 
           -- the list that comes next is charged, and then those behind it
           next_charged : charges_left s n r ≡ charge at walk ∷ charges_left t w.count (r + 1)
           unfolding walks charges
           next_charged =
               let e = positions_many in
-              let d : drop r (positions rs) ≡ at ∷ drop (r + 1) (positions rs) = rw (placed, add-one r) (drop-cons (positions rs) r 0 (omega arith)) in
-              rw (d, next s n r h.left order o l name told, f.slots.are)
+              let d : drop r (positions rs) ≡ at ∷ drop (r + 1) (positions rs) = rw (is, add-one r) (drop-cons (positions rs) r 0 (omega arith)) in
+              rw (d, next s n r h.left l at is, f.slots.are)
 
           -- what it costs is put to its place
           place_turn : (g : Charge → ℕ) (v : ℕ) (p : List ℕ) → g (charge at walk) ≡ v → Placing g p s n r → Placing g (set p at v) t w.count (r + 1)
@@ -322,14 +324,14 @@ module _ (index names : List ℕ) where
               }
             where
               away : (j : ℕ) → r + 1 ≤ j → j < length names → ¬ (get_or (positions rs) j 0 ≡ at)
-              away j k m z = let e = as_many in position_once rs r j (omega arith) (omega arith) (sym (z ∙ placed))
+              away j k m z = let e = as_many in position_once rs r j (omega arith) (omega arith) (sym (z ∙ is))
 
               one : (i : ℕ) → i < 16 → Dec (i ≡ at)
                   → get_or (set p at v) i 0 + charged_at g (charges_left t w.count (r + 1)) i ≡ charged_at g (costs index 1 names) i
               one i k (yes y) =
                   let a = rw next_charged at (q.all i k) in
                   let c = charged_here g (charge at walk) (charges_left t w.count (r + 1)) i (sym y) in
-                  let z : get_or p i 0 ≡ 0 = rw (y, placed) (q.empty r (le_refl r) l) in
+                  let z : get_or p i 0 ≡ 0 = rw (y, is) (q.empty r (le_refl r) l) in
                   let b : get_or (set p at v) i 0 ≡ v = rw (← y) (get_or-set_same p i v 0 (omega (arith, q.sixteen))) in
                   omega arith
               one i k (no y) =
@@ -342,8 +344,8 @@ module _ (index names : List ℕ) where
           pub cost_turn : Costing t w.count (r + 1) (looks + w.looks) (codes + w.codes) (set looks16 at w.looks) (set codes16 at w.codes)
           unfolding total walks
           cost_turn =
-              let k = walked s n r h.left order o l name told in
-              let x = next s n r h.left order o l name told in
+              let k = walked s n r h.left l at is in
+              let x = next s n r h.left l at is in
               let p = rw x at h.all_looks in
               let q = rw x at h.codes_of_all in
               let a₁ = f.looks in
@@ -353,7 +355,7 @@ module _ (index names : List ℕ) where
               let c₁ = h.few_looks in
               let c₂ = h.few_codes in
               record {
-                left = left_turn s n r h.left order o l name told t w.count (rw (← k) f.slots);
+                left = left_turn s n r h.left l at is t w.count (rw (← k) f.slots);
                 looks_placed = place_turn (λ c. c.looks) w.looks looks16 (sym a₁) h.looks_placed;
                 codes_placed = place_turn (λ c. c.codes) w.codes codes16 (sym a₂) h.codes_placed;
                 all_looks = rw f.slots.are (omega arith);
@@ -362,28 +364,67 @@ module _ (index names : List ℕ) where
                 few_codes = omega arith;
               }
 
+    -- THE FURTHER LISTS, by their positions in order
+    module _ (items : List ℕ) (isI : items ≡ drop 1 (positions rs)) (k : ℕ) (less : k < length items) where
+      there : k + 1 < length names
+      there = let e = positions_many in let f = ap length isI ∙ length-drop 1 (positions rs) in omega arith
+
+      item : get_or items k 0 ≡ get_or (positions rs) (k + 1) 0
+      item = let e : 1 + k ≡ k + 1 = omega arith in rw isI (get_or-drop 1 (positions rs) k 0 ∙ ap (λ (i : ℕ). get_or (positions rs) i 0) e)
+
+      -- the position is that of a name, and one of sixteen; the name there is one of the lists
+      pub next_below : get_or items k 0 < length names
+      next_below = at_below (k + 1) there _ item
+
+      pub next_sixteen : get_or items k 0 < 16
+      next_sixteen = at_sixteen (k + 1) there _ item
+
+      pub next_known : get_or names (get_or items k 0) 0 < k_of index
+      next_known = at_known (k + 1) there _ item
+
+      -- those that it holds are left
+      pub left_next : (s : List ℕ) (n : ℕ) → Left s n (k + 1) → (t : List ℕ) (m : ℕ)
+          → Front (keep (λ x. has x (contents u B (record_of index (get_or names (get_or items k 0) 0)))) (take n s)) m t → Left (t ++ drop n s) m (k + 1 + 1)
+      left_next s n h t m f = left_turn s n (k + 1) h there _ item (t ++ drop n s) m (front_before _ m t (drop n s) f)
+
+      -- what a walk costs is put to its place
+      pub cost_next : (s : List ℕ) (n looks codes : ℕ) (looks16 codes16 : List ℕ) → Costing s n (k + 1) looks codes looks16 codes16 → (t : List ℕ) (w : Walked)
+          → Walks (walk_list (listed u B (record_of index (get_or names (get_or items k 0) 0))) 0 (take n s)) w t
+          → Costing (t ++ drop n s) w.count (k + 1 + 1) (looks + w.looks) (codes + w.codes) (set looks16 (get_or items k 0) w.looks) (set codes16 (get_or items k 0) w.codes)
+      cost_next s n looks codes looks16 codes16 h t w f =
+          cost_turn s n (k + 1) looks codes looks16 codes16 h there _ item (t ++ drop n s) w (before_others _ w t (drop n s) f)
+
+    -- all are gone through
+    pub none_further : (items : List ℕ) → items ≡ drop 1 (positions rs) → (k : ℕ) → length items ≤ k → length names ≤ k + 1
+    none_further items isI k l = let e = positions_many in let f = ap length isI ∙ length-drop 1 (positions rs) in omega arith
+
     -- BEFORE THE WALK: the order and the room
     module _ (order : List ℕ) (o : Ordered index names order) where
-      -- as many places as names
-      pub order_there : (r : ℕ) → r < length names → r < length order
-      order_there r l =
-          let e : length (take (length names) order) ≡ length names = ap length o ∙ positions_many in
-          let f = length-take (length names) order in
-          omega arith
+      first : get_or order 0 0 ≡ get_or (positions rs) 0 0
+      first = sym (get_or-take (length names) order 0 0 a.some) ∙ ap (λ (l : List ℕ). get_or l 0 0) o
 
-      -- the first name in the order
-      module _ (name : ℕ) (is : name ≡ get_or names (get_or order 0 0) 0) where
-        first_record : record_of index name ≡ get_or (in_order rs) 0 []
-        first_record = the_record order o 0 a.some name is
+      -- the first position is that of a name, and one of sixteen
+      pub first_below : get_or order 0 0 < length names
+      first_below = at_below 0 a.some _ first
 
-        -- there is room for its slots
-        pub room_there : (n : ℕ) → smallest rs ≤ n → count_of (record_of index name) ≤ n
-        unfolding smallest
-        room_there n l = rw first_record l
+      pub first_sixteen : get_or order 0 0 < 16
+      first_sixteen = at_sixteen 0 a.some _ first
 
-        -- which are gathered
-        pub gathered : (n : ℕ) (s : List ℕ) → Front (contents u B (record_of index name)) n s → Gathered index names n s
-        gathered n s f = rw first_record at f
+      -- the name there is one of the lists
+      pub first_known : get_or names (get_or order 0 0) 0 < k_of index
+      first_known = at_known 0 a.some _ first
+
+      first_record : record_of index (get_or names (get_or order 0 0) 0) ≡ get_or (in_order rs) 0 []
+      first_record = the_record 0 a.some _ first
+
+      -- there is room for its slots
+      pub room_there : (room n : ℕ) → room ≡ smallest rs → room ≤ n → count_of (record_of index (get_or names (get_or order 0 0) 0)) ≤ n
+      unfolding smallest
+      room_there room n e l = rw first_record (rw e at l)
+
+      -- which are gathered
+      pub gathered : (n : ℕ) (s : List ℕ) → Front (contents u B (record_of index (get_or names (get_or order 0 0) 0))) n s → Gathered index names n s
+      gathered n s f = rw first_record at f
 
     -- the counts and the positions that were found
     module _ (counts order : List ℕ) (isC : take (length names) counts ≡ map count_of rs)
@@ -392,23 +433,15 @@ module _ (index names : List ℕ) where
       pub ranked : Ordered index names order
       ranked = isO ∙ ap question.order isC
 
-      module _ (first : ℕ) (is : first ≡ get_or order 0 0) where
-        first_below : first < length names
-        first_below = rw is (position_below order ranked 0 a.some)
-
-        -- the first of them is one of 16
-        pub first_small : first < 16
-        first_small = let l = first_below in let f = a.few in omega arith
-
-        -- and its count is the room needed
-        pub room_told : get_or counts first 0 ≡ smallest rs
-        unfolding smallest
-        room_told =
-            let l = first_below in
-            sym (get_or-take (length names) counts first 0 l)
-            ∙ ap (λ (c : List ℕ). get_or c first 0) isC
-            ∙ count_at index names first l
-            ∙ ap count_of (first_record order ranked (get_or names first 0) (ap (λ (i : ℕ). get_or names i 0) is))
+      -- the count of the first of them is the room needed
+      pub room_told : get_or counts (get_or order 0 0) 0 ≡ smallest rs
+      unfolding smallest
+      room_told =
+          let l = first_below order ranked in
+          sym (get_or-take (length names) counts (get_or order 0 0) 0 l)
+          ∙ ap (λ (c : List ℕ). get_or c (get_or order 0 0) 0) isC
+          ∙ count_at index names (get_or order 0 0) l
+          ∙ ap count_of (first_record order ranked)
 
 -- THE ANSWER: n slots at the front of s, which is cleared behind them
 module _ (index names : List ℕ) (n : ℕ) (s : List ℕ) (f : Front (answer_slots index names) n s) (before after : List ℕ) (long : length s ≡ length before)
@@ -454,3 +487,8 @@ module _ (index names : List ℕ) (a : Asked index names) (s : List ℕ) (n r lo
         codes16 = placed_all index names a s n r looks codes looks16 codes16 h (λ c. c.codes) codes16 h.codes_placed e;
         slots = slots_are index names n s front before after long is;
       }
+
+-- what the code needs on its way: of the first position, of the positions behind it, and of the candidates
+pub ruleset firsts = (first_below, first_sixteen, ranked, room_told, gathered)
+
+pub ruleset others = (next_below, next_sixteen, next_known, left_candidates, left_alone, left_rise, left_few, alone_few, left_told)

@@ -1,23 +1,16 @@
 -- What the steps of a question hand on to each other, and what they answer.
-use Rattle.std.specs.Prelude.{ℕ, ◌-◌, ◌≤◌, ◌≡◌, List, [], ◌++◌, map, length, get_or, take, replicate}
+use Rattle.std.specs.Prelude.{ℕ, ◌-◌, ◌≡◌, List, [], ◌++◌, map, length, get_or, take, replicate}
 use Rattle.paper.specs.Lists.{total}
 use Rattle.paper.specs.Index.{u_of, block_length}
 use Rattle.paper.specs.Held.{contents}
-use Rattle.paper.specs.Question.{Charge, positions, in_order, smallest, places}
+use Rattle.paper.specs.Question.{Charge, positions, in_order, places}
 use Rattle.paper.specs.Ask.{named, answer_slots, costs}
 use Rattle.paper.specs.declared.Answer.{Answer}
 use Rattle.record.specs.Front.{Front}
-use Rattle.names.specs.Asked.{Asked}
 
 -- the positions of the names by rising count stand in `order`
 abbrev pub Ordered : List ℕ → List ℕ → List ℕ → Type 0
 Ordered index names order = take (length names) order ≡ positions (named index names)
-
--- a question that is to be answered: it is good, its names stand in order, and the slice has room for the smallest list
-pub record Ready (index names order slots : List ℕ) : Type 0 where
-  pub asked : Asked index names
-  pub ordered : Ordered index names order
-  pub room : smallest (named index names) ≤ length slots
 
 -- the slots of the smallest list named stand at the front
 abbrev pub Gathered : List ℕ → List ℕ → ℕ → List ℕ → Type 0

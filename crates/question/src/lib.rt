@@ -2,124 +2,83 @@
 // other lists.
 #![tactic(auto)]
 
-ghost use Rattle.std.specs.Prelude.{◌≡◌, ◌≤◌, ◌<◌, length, get_or};
+ghost use Rattle.std.specs.Prelude.{◌≡◌, ◌≤◌, length, IfOk};
 ghost use Rattle.paper.specs.Refusal.{accepted, fault10, fault11, fault14};
 ghost use Rattle.paper.specs.Index.{k_of};
-ghost use Rattle.paper.specs.Look.{look};
-ghost use Rattle.paper.specs.Question.{smallest};
-ghost use Rattle.paper.specs.Ask.{named, answer_slots};
+ghost use Rattle.paper.specs.Fault.{told};
+ghost use Rattle.paper.specs.Ask.{answer_slots};
 ghost use Rattle.record.specs.Front.{Front};
-ghost use Rattle.names.specs.Asked.{Asked};
-ghost use Rattle.question.specs.Answered.{Ordered, Ready, Gathered, Answers};
+ghost use Rattle.question.specs.Ways.{number_of};
+ghost use Rattle.question.specs.Answered.{Gathered, Answers};
 
-use frame::from_end;
+mod ranked;
+mod way;
+
 use gather::clear;
-use names::{count_names, gather_name, merge_rising, walk_name};
-use paper::{Answer, Verdict};
-use ranks::{good_names, order_of};
+use names::{Index, gather_name, merge_rising, walk_name};
+use paper::Answer;
+use paper::refusal::{Fault, Refusal};
+pub use ranked::{Ranked, rank};
+use ranks::good_names;
+pub use way::Way;
 
-// 14, 10 and 11 of a question.
-pub fn check_names(index: &[u8], way: u32, names: &[u32]) -> Verdict
-    requires { (look index.now).number ≡ 0 }
-    ensures { result ≡ fault14 way (fault10 names.now (fault11 (k_of index.now) names.now accepted)) }
+// 14, 10 and 11 of a question: the way.
+// Kept: the way comes as a number here. This is where 14 is told of it, as `fault14` says.
+#[tactic(auto, using(crate::proofs::Naming::namings))]
+pub fn check_names(index: Index<'_>, way: u32, names: &[u32]) -> Result<Way, Refusal>
+    ensures told { told result ≡ fault14 way (fault10 names.now (fault11 (k_of index.entry.bytes.now) names.now accepted)) }
+    ensures way { IfOk result (λ known. number_of known ≡ way) }
 {
-    if 1 < way {
-        return Verdict {
-            number: 14,
-            place: 0,
-        };
+    let way = Way::try_from(way)?;
+    if names.len() < 1 || 16 < names.len() {
+        return Err(Fault::Names.into());
     }
-    if names.len() < 1 {
-        return Verdict {
-            number: 10,
-            place: 0,
-        };
-    }
-    if 16 < names.len() {
-        return Verdict {
-            number: 10,
-            place: 0,
-        };
-    }
-    let k = from_end(index, 12);
-    let good = good_names(names, k);
+    let good = good_names(names, index.k());
     if good < names.len() {
-        return Verdict {
-            number: 11,
+        return Err(Refusal {
+            fault: Fault::Name,
             place: good as u32,
-        };
+        });
     }
-    Verdict {
-        number: 0,
-        place: 0,
-    }
-}
-
-// A position, as an index. (Its bound is part of the promise, so that whoever reads by it sees that it fits.)
-fn wide(position: u32) -> usize
-    ensures { (result ≡ position) × (result < 4294967296) }
-{
-    position as usize
-}
-
-// Puts the positions of the names in order. The count of the smallest list, which is the room that the question needs, is the answer.
-pub fn rank(index: &[u8], names: &[u32], order: &mut [u32]) -> u32
-    requires { Asked index.now names.now × (16 ≤ length order.old) }
-    ensures { Ordered index.now names.now order.new × (result ≡ smallest (named index.now names.now)) }
-{
-    let mut counts = [0u32; 16];
-    count_names(index, names, &mut counts);
-    order_of(&counts, names.len(), order);
-    let first = wide(order[0]);
-    counts[first]
-}
-
-// The name that comes r-th in the order.
-fn name_at(names: &[u32], order: &[u32], r: usize) -> u32
-    requires { (r < length order.now) × (get_or order.now r 0 < length names.now) }
-    ensures { result ≡ get_or names.now (get_or order.now r 0) 0 }
-{
-    let at = wide(order[r]);
-    names[at]
+    Ok(way)
 }
 
 // Gathers the candidates: the slots of the smallest list named.
-fn start(index: &[u8], names: &[u32], order: &[u32], slots: &mut [u32]) -> usize
-    requires { Ready index.now names.now order.now slots.old }
-    ensures { Gathered index.now names.now result slots.new }
+#[tactic(auto, using(crate::proofs::Asking::firsts))]
+fn start(question: &Ranked<'_>, slots: &mut [u32]) -> usize
+    requires { question.now.room ≤ length slots.old }
+    ensures { Gathered question.now.index.bytes.now question.now.names.now result slots.new }
 {
-    let name = name_at(names, order, 0);
-    gather_name(index, name, slots)
+    let at = question.order[0] as usize;
+    gather_name(question.index, question.names[at], slots)
 }
 
 // Answers a question by skips that has room enough: the candidates walk through the list of each further name, in order. What is left of them
 // stands at the front, and 0 behind. What a walk costs is told at the position of its name, and in the sums.
-pub fn answer_by_skips(index: &[u8], names: &[u32], order: &[u32], slots: &mut [u32]) -> Answer
-    requires { Ready index.now names.now order.now slots.old }
-    ensures { Answers index.now 1 names.now slots.old result slots.new }
+#[tactic(auto, using(crate::proofs::Asking::others))]
+pub fn answer_by_skips(question: &Ranked<'_>, slots: &mut [u32]) -> Answer
+    requires { question.now.room ≤ length slots.old }
+    ensures { Answers question.now.index.bytes.now 1 question.now.names.now slots.old result slots.new }
 {
-    let mut left = start(index, names, order, slots);
+    let mut left = start(question, slots);
     let mut looks: u64 = 0;
     let mut codes: u64 = 0;
     let mut looks16 = [0u64; 16];
     let mut codes16 = [0u64; 16];
-    let mut r: usize = 1;
-    while r < names.len() {
-        let at = wide(order[r]);
-        let w = walk_name(index, names[at], slots, left);
+    for position in question.further() {
+        let at = *position as usize;
+        let w = walk_name(question.index, question.names[at], &mut slots[..left]);
         left = w.count;
-        looks = looks + w.looks;
-        codes = codes + w.codes;
+        looks += w.looks;
+        codes += w.codes;
         looks16[at] = w.looks;
         codes16[at] = w.codes;
-        r = r + 1;
     }
-    let told = left as u32;
     clear(slots, left);
     Answer {
         number: 0,
         place: 0,
-        count: told,
+        count: left as u32,
         looks,
         codes,
         looks16,
@@ -128,32 +87,31 @@ pub fn answer_by_skips(index: &[u8], names: &[u32], order: &[u32], slots: &mut [
 }
 
 // Plainly: the candidates are merged with the list of each further name, in order.
-fn by_merging(index: &[u8], names: &[u32], order: &[u32], slots: &mut [u32]) -> usize
-    requires { Ready index.now names.now order.now slots.old }
-    ensures { Front (answer_slots index.now names.now) result slots.new × (result ≤ 1048576) }
+// Kept: a loop beside that of `answer_by_skips`. One loop with the step as a closure would have to carry sums and places that this way does not have.
+#[tactic(auto, using(crate::proofs::Asking::others))]
+fn by_merging(question: &Ranked<'_>, slots: &mut [u32]) -> usize
+    requires { question.now.room ≤ length slots.old }
+    ensures { Front (answer_slots question.now.index.bytes.now question.now.names.now) result slots.new × (result ≤ 1048576) }
 {
-    let mut left = start(index, names, order, slots);
-    let mut r: usize = 1;
-    while r < names.len() {
-        let name = name_at(names, order, r);
-        left = merge_rising(index, name, slots, left);
-        r = r + 1;
+    let mut left = start(question, slots);
+    for position in question.further() {
+        let at = *position as usize;
+        left = merge_rising(question.index, question.names[at], &mut slots[..left]);
     }
     left
 }
 
 // Answers the same question plainly. It reports no looks and no codes.
-pub fn answer_plainly(index: &[u8], names: &[u32], order: &[u32], slots: &mut [u32]) -> Answer
-    requires { Ready index.now names.now order.now slots.old }
-    ensures { Answers index.now 0 names.now slots.old result slots.new }
+pub fn answer_plainly(question: &Ranked<'_>, slots: &mut [u32]) -> Answer
+    requires { question.now.room ≤ length slots.old }
+    ensures { Answers question.now.index.bytes.now 0 question.now.names.now slots.old result slots.new }
 {
-    let count = by_merging(index, names, order, slots);
-    let told = count as u32;
+    let count = by_merging(question, slots);
     clear(slots, count);
     Answer {
         number: 0,
         place: 0,
-        count: told,
+        count: count as u32,
         looks: 0,
         codes: 0,
         looks16: [0; 16],

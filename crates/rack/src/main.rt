@@ -5,36 +5,23 @@
 
 ghost use Rattle.std.specs.Prelude.{◌≡◌, ◌≤◌, length};
 
-use line::{Numbers, read_line};
+use line::read_line;
 use paper::Answer;
 use slots::ask;
 use std::io::Read;
 use std::rt::Files;
 use std::{fs, io};
 
-// Room for the longest file and one byte more: a file that fills it is too long.
-fn file_room() -> [u8; 65537]
-    ensures { 65537 ≡ length result }
+// An array of n places that are all the same.
+fn room<T: Copy, const N: usize>(empty: T) -> [T; N]
+    ensures { N ≡ length result }
 {
-    [0; 65537]
-}
-
-// Room for the longest text and one byte more.
-fn text_room() -> [u8; 257]
-    ensures { 257 ≡ length result }
-{
-    [0; 257]
-}
-
-// Room for the slots of an answer.
-fn slot_room() -> [u32; 16384]
-    ensures { 16384 ≡ length result }
-{
-    [0; 16384]
+    [empty; N]
 }
 
 // Reads to the end, piece by piece, and tells how many bytes came. It stops where the room is full. A read that fails is told as a full room,
 // since rooms have one byte more than is allowed: both come to the same answer.
+// Kept: `read_to_end` wants a vector, and the project uses no heap.
 fn read_all(from: &mut impl Read, room: &mut [u8]) -> usize
     ensures { result ≤ length room.new }
 {
@@ -46,7 +33,7 @@ fn read_all(from: &mut impl Read, room: &mut [u8]) -> usize
         if more == 0 {
             return done;
         }
-        done = done + more;
+        done += more;
     }
     done
 }
@@ -69,46 +56,39 @@ fn print_answer(rt: &impl Print, answer: &Answer) -> io::Result<()> {
     )
 }
 
-// Prints a slot on a line.
-fn print_slot(rt: &impl Print, slot: u32) -> io::Result<()> {
-    println!(rt; "{slot}")
-}
-
 // Prints slots, each on a line.
 fn print_slots(rt: &impl Print, slots: &[u32]) -> io::Result<()> {
     for slot in slots {
-        print_slot(rt, *slot)?;
+        println!(rt; "{slot}")?;
     }
     Ok(())
 }
 
 // Asks the index, and prints the answer. A refusal counts no slots, and so prints its first line only.
-fn reply(rt: &impl Print, index: &[u8], numbers: Numbers) -> io::Result<()>
-    requires { (1 ≤ numbers.many) × (numbers.many ≤ length numbers.values) }
-{
-    let many = numbers.many;
-    let values = numbers.values;
-    let mut slots = slot_room();
-    let answer = ask(index, values[0], &values[1..many], &mut slots);
+// Kept: the way as the number that the text has, for `ask` takes any.
+fn reply(rt: &impl Print, index: &[u8], way: u32, names: &[u32]) -> io::Result<()> {
+    let mut slots = room::<u32, 16384>(0);
+    let answer = ask(index, way, names, &mut slots);
     print_answer(rt, &answer)?;
     let count = answer.count as usize;
     print_slots(rt, &slots[..count])
 }
 
-// Takes the question from standard input. A text that fills its room is over 256 bytes, and `read_line` finds no numbers in it.
+// Takes the question from standard input: the way first, then the names. The room has a byte more than the longest text. A text that fills it
+// is over 256 bytes, and `read_line` finds no numbers in it.
 fn answer_input(rt: &(impl Print + Input), index: &[u8]) -> io::Result<()> {
-    let mut room = text_room();
+    let mut room = room::<u8, 257>(0);
     let many = read_all(&mut rt.reader(), &mut room);
     let numbers = read_line(&room[..many]);
-    if numbers.many < 1 {
+    let Some((way, names)) = numbers.all().split_first() else {
         return println!(rt; "usage");
-    }
-    reply(rt, index, numbers)
+    };
+    reply(rt, index, *way, names)
 }
 
-// The file is judged before anything of standard input is read.
+// The file is judged before anything of standard input is read. Its room has a byte more than the longest file.
 fn main(rt: HostRuntime) -> io::Result<()> {
-    let mut room = file_room();
+    let mut room = room::<u8, 65537>(0);
     let many = read_file(&rt, &mut room);
     if 65536 < many {
         return println!(rt; "file");

@@ -5,25 +5,25 @@ use mathlib.Core.List.{List, [], ◌∷◌, ◌++◌, flatten}
 use native.Mathlib.Numerals.{add-one}
 use native.Mathlib.Decide.{ℕ_discrete}
 use native.Mathlib.Omega.{arith}
-use lib.ListN.{length, drop, drop_of_length-le}
+use lib.ListN.{length, get_or, drop, drop_of_length-le}
 use lib.Seq.{drop-drop, drop-cons}
 use borrow.Author.Tests.{ne_eqb}
 use Rattle.paper.specs.Bytes.{u32_at, part, ceil_div}
 use Rattle.paper.specs.Block.{read_codes}
 use Rattle.paper.specs.Tail.{first_slot, offset_of, end_of}
-use Rattle.paper.specs.Record.{cut_of, tail_count, code_length, bits_of, slots_to_cut, tail_of, record_fault}
-use Rattle.paper.specs.Held.{count_of}
+use Rattle.paper.specs.Record.{cut_of, tail_count, code_length, bits_of, behind_bits, codes_of, slots_to_cut, tail_of, record_fault}
+use Rattle.paper.specs.Held.{count_of, listed}
 use Rattle.laws.proofs.Parts.{length_part, part_end}
 use Rattle.laws.proofs.Rounding.{bytes_hold}
 use Rattle.laws.proofs.Records.{bits_part, entries_part, codes_part}
 use Rattle.laws.proofs.Words.{word_drop, word_part}
 use Rattle.laws.proofs.Entries.{last_end}
-use Rattle.meaning.proofs.Blocks.{block_end, end_last, end_next}
+use Rattle.meaning.proofs.Blocks.{block_end, codes_read, end_last, end_next}
 use Rattle.meaning.proofs.Sound as sound
 use Rattle.meaning.proofs.Sound.{blocks_of, skips_of, code_bytes_of}
-use Rattle.record.specs.Opened.{Opened, LiesAt}
+use Rattle.codes.specs.declared.block.Block.{Block}
+use Rattle.record.specs.Opened.{Opened, PartOf, block_slots}
 use Rattle.record.specs.declared.Parts.{Parts}
-use Rattle.record.specs.declared.BlockAt.{BlockAt}
 
 -- the bits, w bytes behind the head
 module _ (r : List ℕ) (c w : ℕ) (isC : c ≡ u32_at r 0) (isW : w ≡ ceil_div c 8) where
@@ -87,9 +87,8 @@ module _ (u B : ℕ) (r : List ℕ) (ok : record_fault u B (length r) r ≡ 0) (
         inside = omega arith;
       }
 
--- the slots that the codes of a block give
-abbrev pub slots_behind : ℕ → List ℕ → BlockAt → List ℕ
-slots_behind u r q = (read_codes u q.count q.first (part r q.start q.end)).slots
+-- what opening a record needs of it
+pub ruleset opens = (cut_inside, count_inside, opened)
 
 -- the slots of the blocks from block b on
 abbrev pub slots_from : ℕ → ℕ → List ℕ → ℕ → List ℕ
@@ -134,9 +133,33 @@ module _ (u B : ℕ) (r : List ℕ) (p : Parts) (o : Opened u B r p) where
   pub entries_are : part r p.from p.to ≡ skips_of B r
   entries_are = rw (to_is, from_is) (entries_part r (ceil_div (cut_of r) 8) (blocks_of B r) refl)
 
+  -- as the list that is searched has them
+  pub entries_listed : part r p.from p.to ≡ (listed u B r).entries
+  unfolding listed
+  entries_listed = entries_are
+
+  -- one for each block
+  pub entries_long : length (part r p.from p.to) ≡ 8 * p.m
+  entries_long = let s = o.span in let i = o.inside in length_part r p.from p.to (omega arith) ∙ omega arith
+
+  -- c and m too
+  pub cut_listed : p.cut ≡ (listed u B r).cut
+  unfolding listed
+  cut_listed = cut_is
+
+  pub m_listed : p.m ≡ (listed u B r).m
+  unfolding listed
+  m_listed = m_is
+
   -- the codes
-  codes_are : drop p.to r ≡ code_bytes_of B r
-  codes_are = rw to_is (sym (part_end r _) ∙ codes_part r (ceil_div (cut_of r) 8) (blocks_of B r) refl)
+  code_bytes_are : drop p.to r ≡ code_bytes_of B r
+  code_bytes_are = rw to_is (sym (part_end r _) ∙ codes_part r (ceil_div (cut_of r) 8) (blocks_of B r) refl)
+
+  pub codes_are : part r p.to (length r) ≡ codes_of p.m (behind_bits r)
+  codes_are = part_end r p.to ∙ code_bytes_are ∙ sym (ap (λ (m : ℕ). codes_of m (behind_bits r)) m_is)
+
+  pub codes_long : length (part r p.to (length r)) ≡ code_length r
+  codes_long = let s = codes_span in let i = o.inside in length_part r p.to (length r) (omega arith) ∙ omega arith
 
   -- a number among the entries
   entry_word : (i : ℕ) → i + 4 ≤ 8 * p.m → u32_at r (p.from + i) ≡ u32_at (skips_of B r) i
@@ -152,11 +175,15 @@ module _ (u B : ℕ) (r : List ℕ) (p : Parts) (o : Opened u B r p) where
   slots_end b l = let i : length (tail_of u B r).blocks ≤ b = omega (arith, blocks_number) in rw (drop_of_length-le (tail_of u B r).blocks i)
 
   -- those from block b on are those of the block, and then those of the others
-  pub slots_next : (b : ℕ) → b < p.m → (q : BlockAt) → LiesAt u B r b q → slots_from u B r b ≡ q.first ∷ slots_behind u r q ++ slots_from u B r (b + 1)
+  parted : (b : ℕ) → b < p.m → slots_from u B r b ≡ get_or (tail_of u B r).blocks b [] ++ slots_from u B r (b + 1)
   unfolding flatten
-  slots_next b l q is =
+  parted b l =
       let i : b < length (tail_of u B r).blocks = omega (arith, blocks_number) in
-      rw (drop-cons (tail_of u B r).blocks b [] i, add-one b, is.slots)
+      rw (drop-cons (tail_of u B r).blocks b [] i, add-one b)
+
+  pub blocks_next : (b : ℕ) → b < p.m → (q : Block) → get_or (tail_of u B r).blocks b [] ≡ block_slots q
+      → slots_from u B r b ≡ block_slots q ++ slots_from u B r (b + 1)
+  blocks_next b l q is = parted b l ∙ ap (λ (xs : List ℕ). xs ++ slots_from u B r (b + 1)) is
 
   -- block b
   module _ (b : ℕ) (l : b < p.m) where
@@ -171,44 +198,86 @@ module _ (u B : ℕ) (r : List ℕ) (p : Parts) (o : Opened u B r p) where
     pub some_slots : (size : ℕ) → size ≡ min B (p.n - b * B) → 1 ≤ size
     some_slots size is = let l = left_there in let s = o.some_b in omega arith
 
-    module _ (e : ℕ) (isE : e ≡ end_of (length r - p.to) (drop (p.from + 8 * b) r) (p.m - b - 1)) where
-      end_is : e ≡ block_end (code_length r) (blocks_of B r) (skips_of B r) b
-      end_is =
-          isE
-          ∙ elim (ℕ_discrete (b + 1) p.m) [
-            | yes q ↦
-                let z : p.m - b - 1 ≡ 0 = omega arith in
-                let c : length r - p.to ≡ code_length r = let t = codes_span in omega arith in
-                let f : b + 1 ≡ blocks_of B r = let g = m_is in omega arith in
-                last_end _ _ _ z ∙ c ∙ sym (end_last _ _ (skips_of B r) b f)
-            | no n ↦
-                let z : ¬ (p.m - b - 1 ≡ 0) = omega arith in
-                let i : p.from + 8 * b + 12 ≡ p.from + (8 * (b + 1) + 4) = omega arith in
-                rw (ne_eqb _ _ z)
-                (word_drop (p.from + 8 * b) r 12 ∙ ap (u32_at r) i ∙ entry_word (8 * (b + 1) + 4) (omega arith)
-                ∙ sym (end_next _ _ (skips_of B r) b (let g = m_is in omega arith)))
-          ]
+    -- the first of its slots is what its entry says
+    pub first_next : (xs : List ℕ) × (slots_from u B r b ≡ (u32_at r (p.from + 8 * b) ∷ xs) ++ slots_from u B r (b + 1))
+    first_next =
+        let ys = (codes_read u B (code_length r) (blocks_of B r) (tail_count r) (skips_of B r) (code_bytes_of B r) b).slots in
+        let f : u32_at r (p.from + 8 * b) ≡ first_slot (skips_of B r) b = entry_word (8 * b) (omega arith) in (
+          ys,
+          parted b l
+              ∙ ap (λ (xs : List ℕ). xs ++ slots_from u B r (b + 1)) (sound.block_slots u B r o.some_b o.sound b number ∙ sym (ap (λ (x : ℕ). x ∷ ys) f)),
+        )
 
-      -- its codes end within the record
-      pub end_inside : p.to + e ≤ length r
-      end_inside = let t = codes_span in let w = sound.block_within u B r o.some_b o.sound b number in let q = end_is in omega arith
+-- block b of an opened record, read from its entries and its codes
+module _ (u B : ℕ) (r : List ℕ) (p : Parts) (o : Opened u B r p) (b : ℕ) (l : b < p.m) (es cs : List ℕ) (isE : es ≡ (listed u B r).entries)
+    (isC : cs ≡ codes_of p.m (behind_bits r)) (isL : length cs ≡ code_length r) where
+  entries_same : es ≡ skips_of B r
+  unfolding listed
+  entries_same = isE
 
-      -- so it lies where the code says
-      pub lies : (first a size : ℕ) → first ≡ u32_at r (p.from + 8 * b) → a ≡ u32_at r (p.from + 8 * b + 4) → size ≡ min B (p.n - b * B)
-          → LiesAt u B r b (record { first = first; start = p.to + a; end = p.to + e; count = size - 1 })
-      lies first a size is_f is_a isS =
-          let f : first ≡ first_slot (skips_of B r) b = is_f ∙ entry_word (8 * b) (omega arith) in
-          let i : p.from + 8 * b + 4 ≡ p.from + (8 * b + 4) = omega arith in
-          let g : a ≡ offset_of (skips_of B r) b = is_a ∙ ap (u32_at r) i ∙ entry_word (8 * b + 4) (omega arith) in
-          let s = sound.block_forward u B r o.some_b o.sound b number in
-          let q = end_is in
-          let d : p.to + e - (p.to + a) ≡ e - a = omega arith in
-          let c : part r (p.to + a) (p.to + e) ≡ part (code_bytes_of B r) a e = rw (d, ← codes_are, ← drop-drop a p.to r) in
-          let k : size ≡ min B (tail_count r - b * B) = isS ∙ rw n_is in
-          record {
-            low = rw f (sound.first_within u B r o.some_b o.sound b number);
-            forward = omega arith;
-            within = end_inside;
-            reads = rw (c, k, f, g, q) (sound.block_sound u B r o.some_b o.sound b number);
-            slots = rw (c, k, f, g, q) (sound.block_slots u B r o.some_b o.sound b number);
-          }
+  codes_same : cs ≡ code_bytes_of B r
+  codes_same = isC ∙ ap (λ (m : ℕ). codes_of m (behind_bits r)) (m_is u B r p o)
+
+  module _ (a e : ℕ) (isA : a ≡ u32_at es (8 * b + 4)) (isEnd : e ≡ end_of (length cs) (drop (8 * b) es) (p.m - b - 1)) where
+    ends_at : e ≡ block_end (code_length r) (blocks_of B r) (skips_of B r) b
+    ends_at =
+        rw (isL, entries_same) at isEnd
+        ∙ elim (ℕ_discrete (b + 1) p.m) [
+          | yes q ↦
+              let f : b + 1 ≡ blocks_of B r = let g = m_is u B r p o in omega arith in
+              last_end _ _ _ (omega arith) ∙ sym (end_last _ _ (skips_of B r) b f)
+          | no n ↦
+              let z : ¬ (p.m - b - 1 ≡ 0) = omega arith in
+              let i : 8 * b + 12 ≡ 8 * (b + 1) + 4 = omega arith in
+              rw (ne_eqb _ _ z)
+              (word_drop (8 * b) (skips_of B r) 12 ∙ ap (u32_at (skips_of B r)) i ∙ sym (end_next _ _ (skips_of B r) b (let g = m_is u B r p o in omega arith)))
+        ]
+
+    starts_at : a ≡ offset_of (skips_of B r) b
+    starts_at = rw entries_same at isA
+
+    -- its codes lie one behind the other, and within those of the record
+    pub codes_forward : a ≤ e
+    codes_forward = rw (starts_at, ends_at) (sound.block_forward u B r o.some_b o.sound b (number u B r p o b l))
+
+    pub codes_within : e ≤ length cs
+    codes_within = rw (isL, ends_at) (sound.block_within u B r o.some_b o.sound b (number u B r p o b l))
+
+    -- which lie within the record
+    pub codes_lie : PartOf (part cs a e) r
+    codes_lie =
+        let s = codes_span u B r p o in
+        let w = codes_within in
+        let d : p.to + e - (p.to + a) ≡ e - a = omega arith in
+        let c : part r (p.to + a) (p.to + e) ≡ part (code_bytes_of B r) a e = rw (d, ← code_bytes_are u B r p o, ← drop-drop a p.to r) in
+        record {
+          start = p.to + a;
+          end = p.to + e;
+          forward = let f = codes_forward in omega arith;
+          within = omega (arith, isL);
+          are = ap (λ (xs : List ℕ). part xs a e) codes_same ∙ sym c;
+        }
+
+    module _ (first size : ℕ) (is_f : first ≡ u32_at es (8 * b)) (isS : size ≡ min B (p.n - b * B)) where
+      first_is : first ≡ first_slot (skips_of B r) b
+      first_is = rw entries_same at is_f
+
+      size_is : size ≡ min B (tail_count r - b * B)
+      size_is = isS ∙ rw (n_is u B r p o)
+
+      -- it is known to be well
+      pub block_low : first ≤ u
+      block_low = rw first_is (sound.first_within u B r o.some_b o.sound b (number u B r p o b l))
+
+      pub block_well : (read_codes u (size - 1) first (part cs a e)).fault ≡ 0
+      block_well = rw (codes_same, size_is, first_is, starts_at, ends_at) (sound.block_sound u B r o.some_b o.sound b (number u B r p o b l))
+
+      -- and it is the one that the definition reads
+      pub block_there : get_or (tail_of u B r).blocks b [] ≡ first ∷ (read_codes u (size - 1) first (part cs a e)).slots
+      block_there = rw (codes_same, size_is, first_is, starts_at, ends_at) (sound.block_slots u B r o.some_b o.sound b (number u B r p o b l))
+
+-- all of these
+pub ruleset blocks_stand = (left_there, some_slots, codes_forward, codes_within, codes_lie, block_low, block_well, block_there)
+
+-- what counting a record needs of it
+pub ruleset counts = (bits_enough, bits_inside, counted)

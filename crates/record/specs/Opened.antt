@@ -1,11 +1,11 @@
--- A record without a fault, opened: where its parts and its blocks lie.
-use Rattle.std.specs.Prelude.{ℕ, ◌+◌, ◌*◌, ◌≤◌, ◌<◌, ◌≡◌, List, [], ◌∷◌, length, get_or}
+-- A record without a fault, opened: where its parts lie, and what its blocks hold.
+use Rattle.std.specs.Prelude.{ℕ, ◌+◌, ◌*◌, ◌≤◌, ◌<◌, ◌≡◌, List, ◌∷◌, length}
 use Rattle.paper.specs.Bytes.{part}
-use Rattle.paper.specs.Block.{read_codes}
 use Rattle.paper.specs.Tail.{block_count}
-use Rattle.paper.specs.Record.{cut_of, tail_count, bit_length, tail_of, record_fault}
+use Rattle.paper.specs.Record.{cut_of, tail_count, bit_length, record_fault}
+use Rattle.codes.specs.declared.block.Block.{Block}
+use Rattle.codes.specs.InBlock.{read_block}
 use Rattle.record.specs.declared.Parts.{Parts}
-use Rattle.record.specs.declared.BlockAt.{BlockAt}
 
 -- the parts of a record, as its head says
 abbrev pub parts_of : ℕ → ℕ → List ℕ → Parts
@@ -26,10 +26,14 @@ pub record Opened (u B : ℕ) (r : List ℕ) (p : Parts) : Type 0 where
   pub span : p.to ≡ p.from + 8 * p.m
   pub inside : p.to ≤ length r
 
--- block b of the record r lies at q: its codes lie within the record, and its slots are the first one and those that they give
-pub record LiesAt (u B : ℕ) (r : List ℕ) (b : ℕ) (q : BlockAt) : Type 0 where
-  pub low : q.first ≤ u
-  pub forward : q.start ≤ q.end
-  pub within : q.end ≤ length r
-  pub reads : (read_codes u q.count q.first (part r q.start q.end)).fault ≡ 0
-  pub slots : get_or (tail_of u B r).blocks b [] ≡ q.first ∷ (read_codes u q.count q.first (part r q.start q.end)).slots
+-- xs are the bytes of r from `start` up to `end`
+pub record PartOf (xs r : List ℕ) : Type 0 where
+  pub start : ℕ
+  pub end : ℕ
+  pub forward : start ≤ end
+  pub within : end ≤ length r
+  pub are : xs ≡ part r start end
+
+-- the slots of a block: its first one, and those that its codes give
+abbrev pub block_slots : Block → List ℕ
+block_slots b = b.first ∷ (read_block b).slots

@@ -1,19 +1,19 @@
 -- The search, the block and one candidate, as code goes through them: one law for each way out and one for a turn of the loop.
 use Prim.Native.Nat.{ℕ, zero, suc, ◌+◌, ◌-◌, ◌*◌, ◌≤◌, ◌<◌}
 use mathlib.Core.Path.{◌≡◌, sym, ap, ◌∙◌}
-use mathlib.Core.List.{List}
+use mathlib.Core.List.{List, []}
 use native.Mathlib.Omega.{arith}
-use Rattle.paper.specs.Bytes.{u32_at, part}
-use Rattle.paper.specs.Block.{read_codes}
+use lib.ListN.{get_or}
+use Rattle.paper.specs.Bytes.{u32_at}
 use Rattle.paper.specs.Record.{tail_of}
-use Rattle.paper.specs.Held.{entry_of}
+use Rattle.paper.specs.Held.{listed, entry_of}
 use Rattle.paper.specs.Search.{Sought, saw, mid, halved, galloped, searched}
 use Rattle.paper.specs.Walk.{seek, seek_in}
 use Rattle.laws.proofs.Searches.{entry_at, halve_one, halve_up, halve_down, halve_few, gallop_past, gallop_fail, gallop_good}
 use Rattle.codes.specs.declared.Stopped.{Stopped}
-use Rattle.codes.specs.InBlock.{stopped}
-use Rattle.record.specs.declared.BlockAt.{BlockAt}
-use Rattle.record.specs.Opened.{LiesAt}
+use Rattle.codes.specs.declared.block.Block.{Block}
+use Rattle.codes.specs.InBlock.{stopped, read_block}
+use Rattle.record.specs.Opened.{block_slots}
 use Rattle.search.specs.declared.Found.{Found}
 use Rattle.search.specs.Told.{found}
 
@@ -22,7 +22,7 @@ pub entry_told : (es : List ℕ) (j v : ℕ) → 1 ≤ j → v ≡ u32_at es (8 
 entry_told es j v h e = e ∙ sym (entry_at 0 es j h)
 
 -- n looks more
-abbrev plus : ℕ → Found → Found
+abbrev pub plus : ℕ → Found → Found
 plus n r = record { j = r.j; looks = n + r.looks }
 
 counted : (n i : ℕ) (t : Sought) → plus (n + 1) (found t) ≡ plus n (found (saw i t))
@@ -41,16 +41,17 @@ module _ (s : ℕ → ℕ) (x lo hi : ℕ) where
   few r e = rw e (halve_few s x lo hi)
 
   module _ (v : ℕ) (r : Found) (h : 1 < hi - lo) (e : v ≡ s (mid lo hi)) where
-    looked : (t : Sought) → r ≡ found t → halved s x lo hi ≡ saw (mid lo hi) t → plus 1 r ≡ found (halved s x lo hi)
-    looked t q g = ap (plus 1) q ∙ counted 0 (mid lo hi) t ∙ none (found (saw (mid lo hi) t)) ∙ ap found (sym g)
+    looked : (t : Sought) (a : Found) → a ≡ plus 1 r → r ≡ found t → halved s x lo hi ≡ saw (mid lo hi) t → a ≡ found (halved s x lo hi)
+    looked t a k q g = k ∙ ap (plus 1) q ∙ counted 0 (mid lo hi) t ∙ none (found (saw (mid lo hi) t)) ∙ ap found (sym g)
 
-    -- the middle is not above x
-    pub upper : v ≤ x → r ≡ found (halved s x (mid lo hi) hi) → record { j = r.j; looks = 1 + r.looks } ≡ found (halved s x lo hi)
-    upper b q = looked _ q (halve_up s x lo hi h (rw e at b))
+    module _ (a : Found) (k : a ≡ plus 1 r) where
+      -- the middle is not above x
+      pub upper : v ≤ x → r ≡ found (halved s x (mid lo hi) hi) → a ≡ found (halved s x lo hi)
+      upper b q = looked _ a k q (halve_up s x lo hi h (rw e at b))
 
-    -- it is
-    pub lower : x < v → r ≡ found (halved s x lo (mid lo hi)) → record { j = r.j; looks = 1 + r.looks } ≡ found (halved s x lo hi)
-    lower b q = looked _ q (halve_down s x lo hi h (rw e at b))
+      -- it is
+      pub lower : x < v → r ≡ found (halved s x lo (mid lo hi)) → a ≡ found (halved s x lo hi)
+      lower b q = looked _ a k q (halve_down s x lo hi h (rw e at b))
 
 -- Doubling: n looks are made, and what is left of the search goes on from distance d, lo being the last good position
 pub record Head (s : ℕ → ℕ) (x m p d lo n : ℕ) : Type 0 where
@@ -72,16 +73,16 @@ module _ (s : ℕ → ℕ) (x m p : ℕ) where
     go t e = ap (λ (t : Sought). plus n (found t)) (sym e) ∙ h.same
 
     -- past m: the rest is halved
-    pub ended : (r : Found) → m - p < d → p ≤ m → r ≡ found (halved s x lo (m + 1)) → record { j = r.j; looks = n + r.looks } ≡ found (searched s x m p)
-    ended r a l q = ap (plus n) q ∙ go _ (gallop_past s x m p d lo h.some (omega arith))
+    pub ended : (r w : Found) → w ≡ plus n r → m - p < d → p ≤ m → r ≡ found (halved s x lo (m + 1)) → w ≡ found (searched s x m p)
+    ended r w k f l q = k ∙ ap (plus n) q ∙ go _ (gallop_past s x m p d lo h.some (omega arith))
 
     module _ (v : ℕ) (e : v ≡ s (p + d)) (a : d ≤ m - p) (l : p ≤ m) where
       look : (t : Sought) → galloped s x m p d lo ≡ saw (p + d) t → plus (n + 1) (found t) ≡ found (searched s x m p)
       look t g = counted n (p + d) t ∙ go (saw (p + d) t) g
 
       -- an entry above x: what lies before it is halved
-      pub failed : (r : Found) → x < v → r ≡ found (halved s x lo (p + d)) → record { j = r.j; looks = n + 1 + r.looks } ≡ found (searched s x m p)
-      failed r b q = ap (plus (n + 1)) q ∙ look _ (gallop_fail s x m p d lo h.some (omega arith) (rw e at b))
+      pub failed : (r w : Found) → w ≡ plus (n + 1) r → x < v → r ≡ found (halved s x lo (p + d)) → w ≡ found (searched s x m p)
+      failed r w k b q = k ∙ ap (plus (n + 1)) q ∙ look _ (gallop_fail s x m p d lo h.some (omega arith) (rw e at b))
 
       -- a good entry: twice as far
       pub turn : v ≤ x → Head s x m p (2 * d) (p + d) (n + 1)
@@ -92,15 +93,9 @@ module _ (s : ℕ → ℕ) (x m p : ℕ) where
           let g = gallop_good s x m p d lo h.some (omega arith) (rw e at b) in
           record { some = omega arith; far = omega arith; ahead = omega arith; within = omega arith; few = omega arith; same = look _ g }
 
--- block j
-sought : (u B : ℕ) (r : List ℕ) (x j : ℕ) (b : BlockAt) → 1 ≤ j → LiesAt u B r (j - 1) b
-    → seek x b.first (read_codes u b.count b.first (part r b.start b.end)).slots ≡ seek_in (tail_of u B r).blocks x j
-unfolding seek_in
-sought u B r x zero b l o = absurd (omega arith)
-sought u B r x (suc j) b l o = let e : suc j - 1 ≡ j = omega arith in let s = rw e at o.slots in rw s
-
--- read up to x as the definition says
-pub block_told : (u B : ℕ) (r : List ℕ) (j x : ℕ) (b : BlockAt) (t : Stopped) → 1 ≤ j → LiesAt u B r (j - 1) b
-    → t ≡ stopped 0 (seek x b.first (read_codes u b.count b.first (part r b.start b.end)).slots)
-    → t ≡ stopped 0 (seek_in (tail_of u B r).blocks x j)
-block_told u B r j x b t l o e = e ∙ ap (stopped 0) (sought u B r x j b l o)
+-- block j, read up to x as the definition says
+pub block_told : (u B : ℕ) (r : List ℕ) (j x : ℕ) (b : Block) (t : Stopped) → 1 ≤ j → get_or (tail_of u B r).blocks (j - 1) [] ≡ block_slots b
+    → t ≡ stopped 0 (seek x b.first (read_block b).slots) → t ≡ stopped 0 (seek_in (listed u B r).blocks x j)
+unfolding seek_in listed
+block_told u B r zero x b t l is e = absurd (omega arith)
+block_told u B r (suc j) x b t l is e = let n : suc j - 1 ≡ j = omega arith in let s = rw n at is in rw s e

@@ -3,18 +3,17 @@
 // found where the next one is the slot itself.
 #![tactic(auto)]
 
-ghost use Rattle.std.specs.Prelude.{◌≡◌, ◌+◌, ◌*◌, ◌≤◌, ◌<◌, length};
-ghost use Rattle.paper.specs.Lists.{has, first_from};
-ghost use Rattle.paper.specs.Record.{tail_of, record_fault};
-ghost use Rattle.paper.specs.Held.{contents, listed, entry_of};
+ghost use Rattle.std.specs.Prelude.{◌≡◌, ℕ, ◌+◌, ◌-◌, ◌*◌, ◌≤◌, ◌<◌, length};
+ghost use Rattle.paper.specs.Lists.{some_slot, has, first_from};
+ghost use Rattle.paper.specs.Held.{entry_of};
 ghost use Rattle.paper.specs.Search.{halved, searched};
 ghost use Rattle.paper.specs.Walk.{seek_in, or_behind, tried};
 ghost use Rattle.codes.specs.InBlock.{stopped};
-ghost use Rattle.record.specs.Opened.{Opened};
-ghost use Rattle.search.specs.Told.{found, as_try, told};
+ghost use Rattle.record.specs.Holds.{list_of, slots_of};
+ghost use Rattle.search.specs.Told.{found, reached, told};
 
 use codes::Stopped;
-use record::{Parts, block_at, parts_of};
+use record::Held;
 use seeks::seek_in;
 use words::{bit, next_bit, u32_at};
 
@@ -25,7 +24,21 @@ pub struct Found {
     pub looks: u32,
 }
 
+impl Found {
+    // The same, `looks` more having been made before.
+    fn after(self, looks: u32) -> Found
+        requires { looks + self.looks < 4294967296 }
+        ensures { result ≡ record { j = self.j; looks = looks + self.looks } }
+    {
+        Found {
+            j: self.j,
+            looks: looks + self.looks,
+        }
+    }
+}
+
 // The entry s(j), the first slot of block j, blocks being counted from 1. s(0), the cut, is never looked at.
+#[tactic(auto, using(crate::proofs::Looking::entry_told))]
 fn entry(entries: &[u8], j: usize) -> u32
     requires { (1 ≤ j) × (8 * j ≤ length entries.now) }
     ensures { result ≡ entry_of 0 entries.now j }
@@ -34,25 +47,25 @@ fn entry(entries: &[u8], j: usize) -> u32
 }
 
 // The gap between a good position lo and a failed one hi: a look at its middle, and the same rule again on one half.
+// Kept: a halving of its own, by the clause that holds it to `halved`: the looks are counted and every middle is laid down, and partition_point tells neither.
+#[tactic(auto, using(crate::proofs::Looking::narrow))]
 fn halve(entries: &[u8], x: u32, lo: usize, hi: usize) -> Found
     requires { (lo ≤ hi) × (8 * hi ≤ length entries.now + 8) × (hi ≤ 1048577) }
-    ensures { result ≡ found (halved (entry_of 0 entries.now) x lo hi) }
+    ensures { (result ≡ found (halved (entry_of 0 entries.now) x lo hi)) × (result.looks ≤ hi - lo) }
 {
     if hi - lo <= 1 {
         return Found { j: lo, looks: 0 };
     }
     let mid = lo + (hi - lo) / 2;
     if entry(entries, mid) <= x {
-        let half = halve(entries, x, mid, hi);
-        let looks = 1 + half.looks;
-        return Found { j: half.j, looks };
+        return halve(entries, x, mid, hi).after(1);
     }
-    let half = halve(entries, x, lo, mid);
-    let looks = 1 + half.looks;
-    Found { j: half.j, looks }
+    halve(entries, x, lo, mid).after(1)
 }
 
 // The search for x from the finger: positions at doubling distances while their entries are good, then the gap behind the last good one.
+// Kept: a `while`, since the distance doubles: a chain that makes the distances first is no plainer.
+#[tactic(auto, using(crate::proofs::Looking::begin))]
 pub fn search(entries: &[u8], m: usize, finger: usize, x: u32) -> Found
     requires { (finger ≤ m) × (m ≤ 1048576) × (8 * m ≤ length entries.now) }
     ensures { result ≡ found (searched (entry_of 0 entries.now) x m finger) }
@@ -62,57 +75,44 @@ pub fn search(entries: &[u8], m: usize, finger: usize, x: u32) -> Found
     let mut looks: u32 = 0;
     while d <= m - finger {
         let at = finger + d;
-        looks = looks + 1;
+        looks += 1;
         if x < entry(entries, at) {
-            let gap = halve(entries, x, lo, at);
-            let all = looks + gap.looks;
-            return Found {
-                j: gap.j,
-                looks: all,
-            };
+            return halve(entries, x, lo, at).after(looks);
         }
         lo = at;
         d = 2 * d;
     }
-    let gap = halve(entries, x, lo, m + 1);
-    let all = looks + gap.looks;
-    Found {
-        j: gap.j,
-        looks: all,
-    }
+    halve(entries, x, lo, m + 1).after(looks)
 }
 
 // Reads along block j, counted from 1, up to a slot that is not below x, or to its end.
-fn in_block(rec: &[u8], p: Parts, j: usize, x: u32) -> Stopped
-    requires { Opened p.u p.block rec.now p × (1 ≤ j) × (j ≤ p.m) }
-    ensures { result ≡ stopped 0 (seek_in (tail_of p.u p.block rec.now).blocks x j) }
+#[tactic(auto, using(crate::proofs::Looking::block_told))]
+fn in_block(list: &Held<'_>, j: usize, x: u32) -> Stopped
+    requires { (1 ≤ j) × (j ≤ list.now.parts.m) }
+    ensures { result ≡ stopped 0 (seek_in (list_of list.now).blocks x j) }
 {
-    let b = block_at(rec, p, j - 1);
-    let start = b.start;
-    let end = b.end;
-    seek_in(&rec[start..end], b.count, b.first, p.u, x)
+    seek_in(list.block(j - 1), x)
 }
 
-// The slot s; where it is 0, the first slot of the block behind block j, or 0 where block j is the last. No look is made for it, and no code read.
-fn or_behind(rec: &[u8], p: Parts, j: usize, s: u32) -> u32
-    requires { Opened p.u p.block rec.now p × (j ≤ p.m) }
-    ensures { result ≡ or_behind (listed p.u p.block rec.now) j s }
+// The slot s; where there is none, the first slot of the block behind block j, if one follows. No look is made for it, and no code read.
+#[tactic(auto, using(crate::proofs::Trials::behind))]
+fn or_behind(list: &Held<'_>, j: usize, s: Option<u32>) -> Option<u32>
+    requires { j ≤ list.now.parts.m }
+    ensures { (v : ℕ) → s ≡ some_slot v → result ≡ some_slot (or_behind (list_of list.now) j v) }
 {
-    if s != 0 {
+    if s.is_some() {
         return s;
     }
-    if p.m <= j {
-        return 0;
+    if list.parts.m <= j {
+        return None;
     }
-    let from = p.from;
-    let to = p.to;
-    entry(&rec[from..to], j + 1)
+    Some(entry(list.entries(), j + 1))
 }
 
-// The next slot from x on, 0 where the list has none; the finger from then on; and what it cost.
+// What a step in a list tells; the finger from then on; and what it cost.
 #[derive(Drop)]
-pub struct Reached {
-    pub slot: u32,
+pub struct Step<T> {
+    pub told: T,
     pub finger: usize,
     pub looks: u32,
     pub codes: u32,
@@ -120,27 +120,26 @@ pub struct Reached {
 
 // Above the cut: the search gives j, and block j tells, or where it runs out the block behind it; j = 0 is before the first block. The finger
 // stays at j, whichever block tells.
-fn seek_slot(rec: &[u8], p: Parts, finger: usize, x: u32) -> Reached
-    requires { Opened p.u p.block rec.now p × (finger ≤ p.m) × (p.cut < x) }
-    ensures { (as_try result ≡ tried (listed p.u p.block rec.now) finger x) × (result.finger ≤ p.m) }
+#[tactic(auto, using(crate::proofs::Trials::j_within))]
+fn seek_slot(list: &Held<'_>, finger: usize, x: u32) -> Step<Option<u32>>
+    requires { (finger ≤ list.now.parts.m) × (list.now.parts.cut < x) }
+    ensures { (result ≡ reached (tried (list_of list.now) finger x)) × (result.finger ≤ list.now.parts.m) }
 {
-    let from = p.from;
-    let to = p.to;
-    let led = search(&rec[from..to], p.m, finger, x);
+    let led = search(list.entries(), list.parts.m, finger, x);
     let j = led.j;
     if j == 0 {
-        let slot = or_behind(rec, p, 0, 0);
-        return Reached {
-            slot,
+        let first = or_behind(list, 0, None);
+        return Step {
+            told: first,
             finger: 0,
             looks: led.looks,
             codes: 0,
         };
     }
-    let stop = in_block(rec, p, j, x);
-    let slot = or_behind(rec, p, j, stop.slot);
-    Reached {
-        slot,
+    let stop = in_block(list, j, x);
+    let slot = or_behind(list, j, stop.slot);
+    Step {
+        told: slot,
         finger: j,
         looks: led.looks,
         codes: stop.codes,
@@ -148,74 +147,62 @@ fn seek_slot(rec: &[u8], p: Parts, finger: usize, x: u32) -> Reached
 }
 
 // The next slot of a list from x on: up to the cut by the bits, and where they run out by the first block, with no search, and the finger stays.
-pub fn next_slot(rec: &[u8], p: Parts, finger: usize, x: u32) -> Reached
-    requires { Opened p.u p.block rec.now p × (finger ≤ p.m) × (0 < x) }
-    ensures { (as_try result ≡ tried (listed p.u p.block rec.now) finger x) × (result.finger ≤ p.m) }
+pub fn next_slot(list: &Held<'_>, finger: usize, x: u32) -> Step<Option<u32>>
+    requires { (finger ≤ list.now.parts.m) × (0 < x) }
+    ensures { (result ≡ reached (tried (list_of list.now) finger x)) × (result.finger ≤ list.now.parts.m) }
 {
-    if p.cut < x {
-        return seek_slot(rec, p, finger, x);
+    if list.parts.cut < x {
+        return seek_slot(list, finger, x);
     }
-    let from = p.from;
-    let near = next_bit(&rec[12..from], x, p.cut + 1 - x);
-    let slot = or_behind(rec, p, 0, near);
-    Reached {
-        slot,
+    let near = next_bit(list.bits(), x, list.parts.cut + 1 - x);
+    let slot = or_behind(list, 0, near);
+    Step {
+        told: slot,
         finger,
         looks: 0,
         codes: 0,
     }
 }
 
-// One candidate tried in a list: whether it is found, the finger from then on, and what it cost.
-#[derive(Drop)]
-pub struct Tried {
-    pub found: bool,
-    pub finger: usize,
-    pub looks: u32,
-    pub codes: u32,
-}
-
-// A candidate is found where the next slot from it on is the candidate itself. Up to the cut its own bit says so, and which bit is the next one
-// is not asked: a list with few bits would be gone through again and again.
-pub fn try_slot(rec: &[u8], p: Parts, finger: usize, x: u32) -> Tried
-    requires { Opened p.u p.block rec.now p × (finger ≤ p.m) × (0 < x) }
-    ensures { (result ≡ told x (tried (listed p.u p.block rec.now) finger x)) × (result.finger ≤ p.m) }
+// One candidate tried in a list: it is found where the next slot from it on is the candidate itself. Up to the cut its own bit says so, and which
+// bit is the next one is not asked: a list with few bits would be gone through again and again.
+#[tactic(auto, using(crate::proofs::Trials::by_bit))]
+pub fn try_slot(list: &Held<'_>, finger: usize, x: u32) -> Step<bool>
+    requires { (finger ≤ list.now.parts.m) × (0 < x) }
+    ensures { (result ≡ told x (tried (list_of list.now) finger x)) × (result.finger ≤ list.now.parts.m) }
 {
-    if x <= p.cut {
-        let from = p.from;
-        let found = bit(&rec[12..from], x);
-        return Tried {
-            found,
+    if x <= list.parts.cut {
+        let found = bit(list.bits(), x);
+        return Step {
+            told: found,
             finger,
             looks: 0,
             codes: 0,
         };
     }
-    let next = next_slot(rec, p, finger, x);
-    Tried {
-        found: next.slot == x,
+    let next = next_slot(list, finger, x);
+    Step {
+        told: next.told == Some(x),
         finger: next.finger,
         looks: next.looks,
         codes: next.codes,
     }
 }
 
-// Whether a record without a fault holds the slot x.
-pub fn holds(rec: &[u8], u: u32, block: u32, x: u32) -> bool
-    requires { (record_fault u block (length rec.now) rec.now ≡ 0) × (0 < block) × (u ≤ 1048576) × (0 < x) }
-    ensures { result ≡ has x (contents u block rec.now) }
+// Whether a list holds a slot.
+#[tactic(auto, using(crate::proofs::Trials::holds_told))]
+pub fn holds(list: &Held<'_>, x: u32) -> bool
+    requires { 0 < x }
+    ensures { result ≡ has x (slots_of list.now) }
 {
-    let p = parts_of(rec, u, block);
-    let told = try_slot(rec, p, 0, x);
-    told.found
+    try_slot(list, 0, x).told
 }
 
-// The least slot of a record without a fault that is not below x, or 0.
-pub fn next_from(rec: &[u8], u: u32, block: u32, x: u32) -> u32
-    requires { (record_fault u block (length rec.now) rec.now ≡ 0) × (0 < block) × (u ≤ 1048576) × (0 < x) }
-    ensures { result ≡ first_from x (contents u block rec.now) }
+// The least slot of a list that is not below x, if there is one.
+#[tactic(auto, using(crate::proofs::Trials::next_told))]
+pub fn next_from(list: &Held<'_>, x: u32) -> Option<u32>
+    requires { 0 < x }
+    ensures { result ≡ some_slot (first_from x (slots_of list.now)) }
 {
-    let p = parts_of(rec, u, block);
-    let next = next_slot(rec, p, 0, x);
-    next.slot
+    next_slot(list, 0, x).told
 }

@@ -1,11 +1,12 @@
 -- Seeking in a block that has as many bytes as codes: each byte is a code.
-use Prim.Native.Nat.{ℕ, zero, suc, ◌+◌, ◌-◌, ◌≤◌, ◌<◌}
-use mathlib.Core.Path.{◌≡◌, refl, ◌∙◌}
+use Prim.Native.Nat.{ℕ, zero, suc, ◌+◌, ◌-◌, ◌*◌, ◌/◌, ◌≤◌, ◌<◌}
+use mathlib.Core.Path.{◌≡◌, refl, sym, ap, ◌∙◌}
 use mathlib.Core.List.{List}
 use native.Mathlib.Decide.{dec_lt}
 use native.Mathlib.Omega.{arith}
 use lib.Dec.{ltb}
-use lib.ListN.{length, drop, take}
+use lib.ListN.{length, drop, take, get_or}
+use Rattle.std.proofs.lemmas.List.{get_or-take, get_or-drop}
 use borrow.Author.Tests.{lt-ltb, le-ltb}
 use Rattle.paper.specs.Lists.{pick, bit_of}
 use Rattle.paper.specs.Bytes.{byte_at}
@@ -59,24 +60,25 @@ fits u bs (suc m) n k y low f all l =
     let r = fits u bs m (n + 1) (k - 1) (y + b + 1) (sound.below u k y bs n f (omega arith) b (n + 1) i) (sound.rest_sound u k y bs n f (omega arith) b (n + 1) i) (omega arith) (omega arith) in
     omega arith
 
--- how far it came: n codes are read, in as many bytes, and y is the slot read last
-pub record Ahead (x u : ℕ) (bs : List ℕ) (count : ℕ) (t : Stopped) (n y : ℕ) : Type 0 where
+-- how far it came in i hops of eight: n codes are read, in as many bytes, and y is the slot read last
+pub record Ahead (x u : ℕ) (bs : List ℕ) (count : ℕ) (t : Stopped) (i n y : ℕ) : Type 0 where
   pub all : length bs ≡ count
+  pub hops : n ≡ 8 * i
   pub head : Head x u bs count t n n y
 
-module _ (x u : ℕ) (bs : List ℕ) (count : ℕ) (t : Stopped) (n y : ℕ) (h : Ahead x u bs count t n y) (l : n + 8 ≤ length bs) where
-  module _ (sum : ℕ) (is : sum ≡ digits (take 8 (drop n bs))) where
+module _ (x u : ℕ) (bs : List ℕ) (count : ℕ) (t : Stopped) (i n y : ℕ) (h : Ahead x u bs count t i n y) (l : i < length bs / 8) where
+  module _ (sum : ℕ) (is : sum ≡ digits (take 8 (drop (8 * i) bs))) where
+    there : sum ≡ digits (take 8 (drop n bs))
+    there = is ∙ ap (λ (p : ℕ). digits (take 8 (drop p bs))) (sym h.hops)
+
     -- the next eight do not lead above u
     pub ahead_fits : y + sum + 8 ≤ u
-    ahead_fits = let r = fits u bs 8 n (count - n) y h.head.low h.head.sound (omega (arith, h.all)) (omega (arith, h.all)) in omega arith
+    ahead_fits = let r = fits u bs 8 n (count - n) y h.head.low h.head.sound (omega (arith, h.all, h.hops)) (omega (arith, h.all, h.hops)) in omega (arith, there)
 
     -- all of them are below x
-    pub ahead_turn : y + sum + 8 < x → Ahead x u bs count t (n + 8) (y + sum + 8)
-    ahead_turn g = record { all = h.all; head = hop x u bs count t h.all 8 n y (y + sum + 8) h.head (omega (arith, h.all)) (omega arith) g }
-
-  -- what is found from there on is what is sought
-  pub ahead_end : (p m z : ℕ) → Head x u bs count (stopped n (seek x y (read_codes u (count - n) y (drop n bs)).slots)) p m z → Head x u bs count t p m z
-  ahead_end p m z k = record { few = k.few; low = k.low; sound = k.sound; same = k.same ∙ h.head.same }
+    pub ahead_turn : y + sum + 8 < x → Ahead x u bs count t (i + 1) (n + 8) (y + sum + 8)
+    ahead_turn g =
+        record { all = h.all; hops = omega (arith, h.hops); head = hop x u bs count t h.all 8 n y (y + sum + 8) h.head (omega (arith, h.all, h.hops)) (omega (arith, there)) g }
 
 -- up to the slot that is not below x, which is one of the next eight: i of them are tried, and n codes are read in all
 pub record Along (x u : ℕ) (bs : List ℕ) (count : ℕ) (t : Stopped) (at i n y : ℕ) : Type 0 where
@@ -128,9 +130,6 @@ module _ (x u : ℕ) (bs : List ℕ) (count at y : ℕ) (some : at + 8 ≤ lengt
             let e = h.far in
             record { head = rw (same, k) h.head; tried = omega arith; far = omega arith; on = λ q. absurd (omega arith) }
 
--- the two ways of one try
-pub onward_yes : (y b x : ℕ) → y < x → y + b + 1 ≡ pick (ltb y x) (y + b + 1) y
-onward_yes y b x l = simp (lt-ltb y x l)
-
-pub onward_no : (y b x : ℕ) → x ≤ y → y ≡ pick (ltb y x) (y + b + 1) y
-onward_no y b x l = simp (le-ltb y x l)
+-- the i-th of the bytes that are tried
+pub nth_byte : (bs : List ℕ) (at m i b : ℕ) → b ≡ get_or (take m (drop at bs)) i 0 → i < m → b ≡ byte_at bs (at + i)
+nth_byte bs at m i b e l = e ∙ get_or-take m (drop at bs) i 0 l ∙ get_or-drop at bs i 0

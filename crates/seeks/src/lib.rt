@@ -2,90 +2,92 @@
 // once, and none that it reports is left unread.
 #![tactic(auto)]
 
-ghost use Rattle.std.specs.Prelude.{◌≡◌, ◌+◌, ◌-◌, ◌≤◌, ◌<◌, ltb, length, drop};
+ghost use Rattle.std.specs.Prelude.{◌≡◌, ◌+◌, ◌≤◌, ◌<◌, ltb, length};
 ghost use Rattle.paper.specs.Lists.{pick};
-ghost use Rattle.paper.specs.Block.{read_codes};
 ghost use Rattle.paper.specs.Walk.{seek};
-ghost use Rattle.codes.specs.InBlock.{stopped};
-ghost use Rattle.seeks.specs.Sought.{Head};
+ghost use Rattle.codes.specs.InBlock.{stopped, read_block};
+ghost use Rattle.seeks.specs.Sought.{left, sought, Leads};
 
-use codes::{Stopped, known_code};
+use codes::{Block, Stopped, known_code};
 use glance::eight;
-use words::{byte, one};
+
+// How far the reading came: the codes that are read, and the slot read last.
+#[derive(Clone, Copy)]
+struct Reached {
+    codes: u32,
+    slot: u32,
+}
 
 // The slot behind y by the code b, where y is below x; else y.
 fn onward(y: u32, b: u32, x: u32) -> u32
     requires { y < x → y + b + 1 ≤ 4294967295 }
     ensures { result ≡ pick (ltb y x) (y + b + 1) y }
 {
-    if y < x {
-        return y + b + 1;
-    }
-    y
+    if y < x { y + b + 1 } else { y }
 }
 
 // Where one of the next eight codes leads to x or above it: each of them is taken, or not, with no branch on which it is.
-fn in_eight(s: &[u8], count: u32, u: u32, x: u32, at: usize, y: u32) -> Stopped
-    requires { (length s.now ≡ count) × (at + 8 ≤ length s.now) × (y ≤ u) × ((read_codes u (count - at) y (drop at s.now)).fault ≡ 0) }
-    ensures { Head x u s.now count (stopped at (seek x y (read_codes u (count - at) y (drop at s.now)).slots)) result.codes result.codes result.slot }
+fn in_eight(block: Block<'_>, x: u32, from: Reached) -> Reached
+    requires { (length block.codes.now ≡ block.count) × (from.codes + 8 ≤ block.count) × (from.slot ≤ block.u) × ((left block from).fault ≡ 0) }
+    ensures { Leads block.entry x (sought block.entry x from) result }
 {
-    let mut codes = at as u32;
-    let mut slot = y;
-    let mut i: usize = 0;
-    while i < 8 {
-        let b = byte(s, at + i);
-        let more = one(slot < x) as u32;
-        slot = onward(slot, b, x);
-        codes = codes + more;
-        i = i + 1;
+    let at = from.codes as usize;
+    let mut here = from;
+    for b in &block.codes[at..at + 8] {
+        let more = u32::from(here.slot < x);
+        here.slot = onward(here.slot, u32::from(*b), x);
+        here.codes = here.codes + more;
     }
-    Stopped { slot, codes }
+    here
 }
 
-// Goes ahead eight codes at a time where a block has as many bytes as codes, each of which is one of its bytes then: how far it came, and the slot read last. In a
-// short block it would cost more than it saves.
-fn ahead(s: &[u8], count: u32, first: u32, u: u32, x: u32) -> Stopped
-    requires { (first ≤ u) × ((read_codes u count first s.now).fault ≡ 0) }
-    ensures { Head x u s.now count (stopped 0 (seek x first (read_codes u count first s.now).slots)) result.codes result.codes result.slot }
+// Goes ahead eight codes at a time where a block has as many bytes as codes, each of which is one of its bytes then: how far it came. In a short block it
+// would cost more than it saves.
+fn ahead(block: Block<'_>, x: u32) -> Reached
+    ensures { Leads block.entry x (stopped 0 (seek x block.entry.first (read_block block.entry).slots)) result }
 {
-    let n = s.len();
-    let mut codes: u32 = 0;
-    let mut slot = first;
-    if count < 32 {
-        return Stopped { slot, codes };
+    let n = block.codes.len();
+    let mut here = Reached {
+        codes: 0,
+        slot: block.first,
+    };
+    if block.count < 32 || n != block.count as usize {
+        return here;
     }
-    if n != count as usize {
-        return Stopped { slot, codes };
-    }
-    while codes as usize + 8 <= n {
-        let at = codes as usize;
-        let to = slot + eight(s, at) + 8;
+    for hop in 0..n / 8 {
+        let to = here.slot + eight(block.codes, 8 * hop) + 8;
         if x <= to {
-            return in_eight(s, count, u, x, at, slot);
+            return in_eight(block, x, here);
         }
-        slot = to;
-        codes = codes + 8;
+        here = Reached {
+            codes: here.codes + 8,
+            slot: to,
+        };
     }
-    Stopped { slot, codes }
+    here
 }
 
-// Reads a block without a fault from its first slot on until a slot that is not below x, or to its end.
-pub fn seek_in(s: &[u8], count: u32, first: u32, u: u32, x: u32) -> Stopped
-    requires { (first ≤ u) × ((read_codes u count first s.now).fault ≡ 0) }
-    ensures { result ≡ stopped 0 (seek x first (read_codes u count first s.now).slots) }
+// Reads a block from its first slot on until a slot that is not below x, or to its end.
+#[tactic(auto, using(crate::proofs::Turns::seeks))]
+pub fn seek_in(block: Block<'_>, x: u32) -> Stopped
+    ensures { result ≡ stopped 0 (seek x block.entry.first (read_block block.entry).slots) }
 {
-    let near = ahead(s, count, first, u, x);
+    let near = ahead(block, x);
     let mut at = near.codes as usize;
-    let mut codes = near.codes;
     let mut slot = near.slot;
-    while slot < x {
-        if count <= codes {
-            return Stopped { slot: 0, codes };
+    for codes in near.codes..block.count {
+        if x <= slot {
+            return Stopped::at(slot, codes);
         }
-        let got = known_code(s, at);
-        slot = slot + got.value + 1;
-        at = got.next;
-        codes = codes + 1;
+        let code = known_code(block.codes, at);
+        slot = slot + code.value + 1;
+        at = code.next;
     }
-    Stopped { slot, codes }
+    if x <= slot {
+        return Stopped::at(slot, block.count);
+    }
+    Stopped {
+        slot: None,
+        codes: block.count,
+    }
 }

@@ -3,8 +3,6 @@
 ghost use Rattle.std.specs.Prelude.{◌≡◌, length};
 
 use slots::{close, write};
-use std::num::wrapping_add_u32;
-use words::put_u32;
 
 // The paper's index: list 0 as gaps, list 1 with the cut 16, the directory, the trailer.
 pub const PAPER: [u8; 111] = *b"\
@@ -27,22 +25,15 @@ pub fn room() -> [u8; 512]
 
 // The first `length` bytes of a buffer.
 pub fn front(room: &[u8], length: usize) -> &[u8] {
-    if length <= room.len() {
-        &room[0..length]
-    } else {
-        &room[0..0]
-    }
+    room.get(..length).unwrap_or(&[])
 }
 
 // Puts one number behind the first `at` bytes, and tells where it ends.
 pub fn put_word(room: &mut [u8], at: usize, word: u32) -> usize {
-    if room.len() < 4 {
+    if room.len() < 4 || room.len() - 4 < at {
         return at;
     }
-    if room.len() - 4 < at {
-        return at;
-    }
-    put_u32(room, at, word);
+    room[at..at + 4].copy_from_slice(&word.to_le_bytes());
     at + 4
 }
 
@@ -55,36 +46,29 @@ pub fn put_words(room: &mut [u8], at: usize, words: &[u32]) -> usize {
     end
 }
 
-fn put_byte(room: &mut [u8], at: usize, byte: u8) -> usize {
-    if room.len() <= at {
+// Puts bytes one after the other, as many as fit, and tells where they end.
+pub fn put_bytes(room: &mut [u8], at: usize, bytes: &[u8]) -> usize {
+    if room.len() < at {
         return at;
     }
-    room[at] = byte;
-    at + 1
-}
-
-// Puts bytes one after the other, and tells where they end.
-pub fn put_bytes(room: &mut [u8], at: usize, bytes: &[u8]) -> usize {
-    let mut end = at;
-    for byte in bytes {
-        end = put_byte(room, end, *byte);
-    }
-    end
+    let n = bytes.len().min(room.len() - at);
+    room[at..at + n].copy_from_slice(&bytes[..n]);
+    at + n
 }
 
 // Sets bits of one byte of a record.
 pub fn put_bits(room: &mut [u8], start: u32, at: u32, bits: u8) {
     let to = start as usize + at as usize;
     if to < room.len() {
-        room[to] = room[to] | bits;
+        room[to] |= bits;
     }
 }
 
 // Fills a slice with the multiples of `step`, from the first on.
 pub fn fill(slots: &mut [u32], step: u32) {
-    let mut multiple = 0;
+    let mut multiple: u32 = 0;
     for slot in slots.iter_mut() {
-        multiple = wrapping_add_u32(multiple, step);
+        multiple = multiple.wrapping_add(step);
         *slot = multiple;
     }
 }
@@ -96,7 +80,7 @@ pub fn put_list(room: &mut [u8], at: u32, u: u32, block: u32, cut: u32, slots: &
         return at;
     }
     let made = write(u, block, cut, slots, &mut room[from..]);
-    let end = at as u64 + made.length as u64;
+    let end = u64::from(at) + u64::from(made.length);
     if 65536 < end {
         return at;
     }

@@ -1,256 +1,212 @@
--- What the public functions cite: one law for each way out of each of them. What they need of an accepted index and of its records are the laws
--- of `names`; here is how they know that the index is accepted.
-use Prim.Native.Nat.{ℕ, ◌+◌, ◌-◌, ◌≤◌, ◌<◌}
+-- What the public functions cite: one law for each way out of each of them, where f or r is the refusal that the tests before it told. What they need of
+-- an accepted index and of its records are the laws of `names`.
+use Prim.Native.Nat.{ℕ, zero, suc, ◌+◌, ◌-◌, ◌≤◌, ◌<◌}
 use mathlib.Core.Path.{◌≡◌, refl, sym, ap, ◌∙◌}
 use mathlib.Core.Bool.{Bool, false}
-use mathlib.Core.List.{List}
-use native.Mathlib.Decide.{ℕ_discrete}
+use mathlib.Core.List.{List, []}
 use native.Mathlib.Nat.{le_of_lt}
 use native.Mathlib.Omega.{arith}
 use lib.ListN.{length}
-use borrow.Author.Tests.{eq-eqb, ne_eqb}
-use Rattle.paper.specs.Lists.{has, first_from}
-use Rattle.paper.specs.Bytes.{part, ceil_div}
-use Rattle.paper.specs.Record.{cut_of, tail_count, record_fault}
-use Rattle.paper.specs.Held.{contents, count_of}
+use borrow.Author.Tests.{ne_eqb}
+use Rattle.std.specs.Prelude.{Option}
+use Rattle.std.specs.Option.{unwrap_or}
+use Rattle.paper.specs.Lists.{some_slot, has, first_from}
+use Rattle.paper.specs.Held.{count_of}
 use Rattle.paper.specs.Refusal.{verdict, accepted, fault16}
-use Rattle.paper.specs.Index.{u_of, block_length, k_of, start_of, record_of, held}
+use Rattle.paper.specs.Index.{u_of, k_of, start_of, record_of, held}
 use Rattle.paper.specs.Look.{frame_fault, in_lists, look}
 use Rattle.paper.specs.OneList.{name_fault, test_fault, test_answer, next_answer, count_answer, lent, part_answer}
+use Rattle.paper.specs.Fault.{number_of}
 use Rattle.paper.specs.declared.Verdict.{Verdict}
-use Rattle.paper.specs.declared.Part.{Part}
-use Rattle.laws.proofs.Frames.{or_first, or_second, start_apart, start_within}
-use Rattle.laws.proofs.Names.{Named, named, name_below, name_past, Placed, placed}
+use Rattle.paper.specs.declared.refusal.Fault.{Fault}
+use Rattle.paper.specs.declared.refusal.Refusal.{Refusal}
+use Rattle.laws.proofs.Faults.{no_zero, passes, told_on}
+use Rattle.laws.proofs.Frames.{or_first, or_second}
+use Rattle.names.specs.Asked.{slots_named}
+use Rattle.names.proofs.Records.{directory_held, record_forward, bits_there, sum_small}
+use Rattle.laws.proofs.Names.{Named, named, name_below, name_past, placed}
 use Rattle.laws.proofs.Links.{sixteen_small, sixteen_large, sixteen}
-use Rattle.names.proofs.Records as records
 
--- what was answered accepts, and so does what it is an answer of
-pub passes : (v w : Verdict) → v ≡ w → v.number ≡ 0 → w.number ≡ 0
-passes v w is z = sym (ap (λ (w : Verdict). w.number) is) ∙ z
+-- a slot as the paper says it, from a slot that may not be there
+or_zero : (s : ℕ) → unwrap_or (some_slot s) 0 ≡ s
+or_zero zero = refl
+or_zero (suc s) = refl
 
--- looking: f is the number that 1 to 5 give
-module _ (bs : List ℕ) (f : ℕ) (is : verdict f 0 ≡ frame_fault bs (length bs)) where
-  -- none refuses
-  pub frame_passes : f ≡ 0 → (frame_fault bs (length bs)).number ≡ 0
-  frame_passes = passes (verdict f 0) _ is
-
-  -- one of them does
-  pub frame_refuses : ¬ (f ≡ 0) → verdict f 0 ≡ look bs
+-- looking
+module _ (bs : List ℕ) where
+  -- one of 1 to 5 refuses
+  pub frame_refuses : (f : Fault) → verdict (number_of f) 0 ≡ frame_fault bs (length bs) → verdict (number_of f) 0 ≡ look bs
   unfolding look
-  frame_refuses n = rw (← is) (sym (or_first (verdict f 0) _ n))
+  frame_refuses f is = rw (← is) (sym (or_first _ _ (no_zero f)))
 
-  -- where none does, the lists tell
-  pub lists_tell : f ≡ 0 → (r : Verdict) → r ≡ in_lists bs → r ≡ look bs
+  -- none does, and the lists tell
+  pub lists_tell : accepted ≡ frame_fault bs (length bs) → (v : Verdict) → v ≡ in_lists bs → v ≡ look bs
   unfolding look
-  lists_tell z r e = e ∙ rw (← is) (sym (or_second (verdict f 0) _ z))
+  lists_tell is v e = e ∙ rw (← is) (sym (or_second accepted _ refl))
 
--- a name: v is what looking said
-module _ (bs : List ℕ) (name : ℕ) (v : Verdict) (is : v ≡ look bs) where
+-- a name of an index; cs is the index that looking has accepted
+module _ (bs : List ℕ) (name : ℕ) where
   -- the index is refused
-  pub look_refuses : ¬ (v.number ≡ 0) → v ≡ name_fault bs name
+  pub look_refuses : (r : Refusal) → verdict (number_of r.fault) r.place ≡ look bs → verdict (number_of r.fault) r.place ≡ name_fault bs name
   unfolding name_fault
-  look_refuses n = rw (← is) (sym (or_first v _ n))
+  look_refuses r is = rw (← is) (sym (or_first _ _ (no_zero r.fault)))
 
-  module _ (z : v.number ≡ 0) (k : ℕ) (isK : k ≡ k_of bs) where
+  module _ (is : accepted ≡ look bs) (cs : List ℕ) (same : cs ≡ bs) (k : ℕ) (isK : k ≡ k_of cs) where
+    k_is : k ≡ k_of bs
+    k_is = isK ∙ ap k_of same
+
     -- the name is
     pub name_refused : k ≤ name → verdict 11 0 ≡ name_fault bs name
     unfolding name_fault
-    name_refused l = sym (name_past (k_of bs) name accepted (rw (← isK) l)) ∙ rw (← is) (sym (or_second v _ z))
+    name_refused l = sym (name_past (k_of bs) name accepted (rw (← k_is) l)) ∙ rw (← is) (sym (or_second accepted _ refl))
 
     -- neither is
-    pub name_good : name < k → verdict 0 0 ≡ name_fault bs name
+    pub name_good : name < k → accepted ≡ name_fault bs name
     unfolding name_fault
-    name_good l = sym (name_below (k_of bs) name accepted (rw (← isK) l)) ∙ rw (← is) (sym (or_second v _ z))
+    name_good l = sym (name_below (k_of bs) name accepted (rw (← k_is) l)) ∙ rw (← is) (sym (or_second accepted _ refl))
 
 -- all of these (le_of_lt: no proof needs it today; with it, a test by `<` in place of `<=` fails at what it breaks)
-pub ruleset names = (look_refuses, name_refused, name_good, le_of_lt)
+pub ruleset names = (look_refuses, name_refused, name_good, passes, told_on, le_of_lt)
 
--- where the record lies: v is what was said of the name
-module _ (bs : List ℕ) (name : ℕ) (v : Verdict) (is : v ≡ name_fault bs name) where
-  -- the name is refused
-  pub part_refused : ¬ (v.number ≡ 0) → record { number = v.number; place = v.place; start = 0; length = 0 } ≡ part_answer bs name
+-- a refused name; n is the number that is told
+module _ (bs : List ℕ) (name : ℕ) (r : Refusal) (is : verdict (number_of r.fault) r.place ≡ name_fault bs name) where
+  -- nothing is lent
+  pub nothing_lent : [] ≡ lent bs name
+  unfolding lent
+  nothing_lent = rw (← is) (sym (simp (ne_eqb _ _ (no_zero r.fault))))
+
+  module _ (n : ℕ) (isN : n ≡ number_of r.fault) where
+    -- no part is told
+    pub part_refused : record { number = n; place = r.place; start = 0; length = 0 } ≡ part_answer bs name
+    unfolding part_answer
+    part_refused = rw (isN, ← is) (simp (ne_eqb _ _ (no_zero r.fault)))
+
+    -- nothing is counted
+    pub count_refused : record { number = n; place = r.place; count = 0 } ≡ count_answer bs name
+    unfolding count_answer
+    count_refused = rw (isN, ← is) (simp (ne_eqb _ _ (no_zero r.fault)))
+
+-- a good name
+module _ (bs : List ℕ) (name : ℕ) (is : accepted ≡ name_fault bs name) where
+  the_name : Named bs name
+  the_name = named bs name (passes _ is)
+
+  -- the index has its directory
+  pub name_looked : (look bs).number ≡ 0
+  name_looked = the_name.looked
+
+  -- the name is one of its lists
+  pub name_known : name < k_of bs
+  name_known = the_name.below
+
+  -- its record lies from a to e
+  pub part_told : (a e : ℕ) → a ≡ start_of bs name → e ≡ start_of bs (name + 1) → record { number = 0; place = 0; start = a; length = e - a } ≡ part_answer bs name
   unfolding part_answer
-  part_refused n = rw (← is) (simp (ne_eqb _ _ n))
+  part_told a e is_a isE = rw (the_name.is, is_a, isE)
 
-  module _ (z : v.number ≡ 0) where
-    the_name : Named bs name
-    the_name = named bs name (passes v _ is z)
+  -- cs is the index that looking has accepted
+  module _ (cs : List ℕ) (same : cs ≡ bs) where
+    -- the name is one of its lists too
+    pub name_within : name < k_of cs
+    name_within = rw same name_known
 
-    -- it is not: the index is accepted
-    pub name_looked : (look bs).number ≡ 0
-    name_looked = the_name.looked
+    module _ (r : List ℕ) (isR : r ≡ record_of cs name) where
+      -- its record is lent
+      pub record_lent : r ≡ lent bs name
+      unfolding lent
+      record_lent = isR ∙ rw (same, ← is)
 
-    -- the name is one of its lists
-    pub name_known : name < k_of bs
-    name_known = the_name.below
-
-    -- and its record lies from a to e
-    pub part_told : (a e : ℕ) → a ≡ start_of bs name → e ≡ start_of bs (name + 1) → record { number = 0; place = 0; start = a; length = e - a } ≡ part_answer bs name
-    unfolding part_answer
-    part_told a e is_a isE = rw (the_name.is, is_a, isE)
-
--- what a part says, where it is not refused
-record Found (bs : List ℕ) (name : ℕ) (p : Part) : Type 0 where
-  name_is : Named bs name
-  inside : p.start + p.length ≤ length bs
-  is : part bs p.start (p.start + p.length) ≡ record_of bs name
-
-module _ (bs : List ℕ) (name : ℕ) where
-  module _ (w : Named bs name) where
-    answered : part_answer bs name ≡ record { number = 0; place = 0; start = start_of bs name; length = start_of bs (name + 1) - start_of bs name }
-    unfolding part_answer
-    answered = rw w.is
-
-    to_end : start_of bs name + (start_of bs (name + 1) - start_of bs name) ≡ start_of bs (name + 1)
-    to_end = let h = start_apart bs w.index.frame name w.below in omega arith
-
-    found_at : Found bs name (part_answer bs name)
-    found_at =
-        rw answered
-        (record {
-          name_is = w;
-          inside = rw to_end (start_within bs w.index.frame (name + 1) (let b = w.below in omega arith));
-          is = rw to_end;
-        })
-
-  module _ (p : Part) (is : p ≡ part_answer bs name) where
-    number_is : p.number ≡ (name_fault bs name).number
-    unfolding part_answer
-    number_is = ap (λ (q : Part). q.number) is
-
-    place_is : p.place ≡ (name_fault bs name).place
-    unfolding part_answer
-    place_is = ap (λ (q : Part). q.place) is
-
-    found : p.number ≡ 0 → Found bs name p
-    found z = rw is (found_at (named bs name (sym number_is ∙ z)))
-
-    nowhere : ¬ ((name_fault bs name).number ≡ 0) → (p.start ≡ 0) × (p.length ≡ 0)
-    unfolding part_answer
-    nowhere n = rw is (simp (ne_eqb _ _ n), simp (ne_eqb _ _ n))
-
-    -- lending: what lies there lies in the index
-    pub lend_inside : p.start + p.length ≤ length bs
-    lend_inside =
-        elim (ℕ_discrete (name_fault bs name).number 0) [
-          | yes z ↦ (found (number_is ∙ z)).inside
-          | no n ↦ let e = nowhere n in let f = e.0 in let g = e.1 in omega arith
-        ]
-
-    -- and is what is to be lent
-    pub lent_is : (r : List ℕ) → r ≡ part bs p.start (p.start + p.length) → r ≡ lent bs name
-    unfolding lent
-    lent_is r isR =
-        isR
-        ∙ elim (ℕ_discrete (name_fault bs name).number 0) [
-          | yes z ↦ (found (number_is ∙ z)).is ∙ sym (simp (eq-eqb _ _ z))
-          | no n ↦ let e = nowhere n in rw (e.0, e.1) (sym (simp (ne_eqb _ _ n)))
-        ]
-
-    module _ (n : ¬ (p.number ≡ 0)) where
-      n' : ¬ ((name_fault bs name).number ≡ 0)
-      n' z = n (number_is ∙ z)
-
-      -- a refused part is refused by counting
-      pub count_refused : record { number = p.number; place = p.place; count = 0 } ≡ count_answer bs name
+      -- and counted
+      pub count_told : (n : ℕ) → n ≡ count_of r → record { number = 0; place = 0; count = n } ≡ count_answer bs name
       unfolding count_answer
-      count_refused = rw (number_is, place_is) (simp (ne_eqb _ _ n'))
+      count_told n e = rw (e, isR, same, ← is)
 
-    module _ (z : p.number ≡ 0) where
-      -- where a part is told, the index is accepted
-      pub part_looked : (look bs).number ≡ 0
-      part_looked = (found z).name_is.looked
-
-      -- and r, which lies there, is the record of the name
-      module _ (r : List ℕ) (isR : r ≡ part bs p.start (p.start + p.length)) where
-        known : name < k_of bs
-        known = (found z).name_is.below
-
-        record_is : r ≡ record_of bs name
-        record_is = isR ∙ (found z).is
-
-        -- its bits lie in it
-        pub bits_there : 12 + ceil_div (cut_of r) 8 ≤ length r
-        bits_there = records.bits_there bs part_looked name known r record_is
-
-        -- its slots are few
-        pub sum_small : cut_of r + tail_count r ≤ 1048576
-        sum_small = records.sum_small bs part_looked name known r record_is
-
-        -- counting
-        pub count_told : (n : ℕ) → n ≡ count_of r → record { number = 0; place = 0; count = n } ≡ count_answer bs name
-        unfolding count_answer
-        count_told n e = rw (e, record_is, (found z).name_is.is)
-
--- a slot of a list: v is what was said of the name
-module _ (bs : List ℕ) (name x : ℕ) (v : Verdict) (is : v ≡ name_fault bs name) where
+-- a slot of a list
+module _ (bs : List ℕ) (name x : ℕ) where
   -- the index or the name is refused
-  pub name_refuses : ¬ (v.number ≡ 0) → v ≡ test_fault bs name x
+  pub name_refuses : (r : Refusal) → verdict (number_of r.fault) r.place ≡ name_fault bs name → verdict (number_of r.fault) r.place ≡ test_fault bs name x
   unfolding test_fault
-  name_refuses n = rw (← is) (sym (or_first v _ n))
+  name_refuses r is = rw (← is) (sym (or_first _ _ (no_zero r.fault)))
 
-  module _ (z : v.number ≡ 0) (u : ℕ) (isU : u ≡ u_of bs) where
+  module _ (is : accepted ≡ name_fault bs name) (cs : List ℕ) (same : cs ≡ bs) (u : ℕ) (isU : u ≡ u_of cs) where
+    u_is : u ≡ u_of bs
+    u_is = isU ∙ ap u_of same
+
     so : (f : Verdict) → f ≡ fault16 (u_of bs) x accepted → f ≡ test_fault bs name x
     unfolding test_fault
-    so f e = e ∙ rw (← is) (sym (or_second v _ z))
+    so f e = e ∙ rw (← is) (sym (or_second accepted _ refl))
 
     -- slot 0
     pub slot_small : x < 1 → verdict 16 0 ≡ test_fault bs name x
-    slot_small l = so _ (sixteen_small accepted (u_of bs) x u isU l)
+    slot_small l = so _ (sixteen_small accepted (u_of bs) x u u_is l)
 
     module _ (g : 1 ≤ x) where
       -- a slot above u
       pub slot_large : u < x → verdict 16 0 ≡ test_fault bs name x
-      slot_large l = so _ (sixteen_large accepted (u_of bs) x u isU g l)
+      slot_large l = so _ (sixteen_large accepted (u_of bs) x u u_is g l)
 
       -- a slot in 1..u
-      pub slot_inside : x ≤ u → verdict 0 0 ≡ test_fault bs name x
-      slot_inside l = so _ (sixteen accepted (u_of bs) x u isU g l _ refl)
+      pub slot_inside : x ≤ u → accepted ≡ test_fault bs name x
+      slot_inside l = so _ (sixteen accepted (u_of bs) x u u_is g l _ refl)
 
--- all of these (le_of_lt: as above)
-pub ruleset slot_tests = (name_refuses, slot_small, slot_large, slot_inside, le_of_lt)
+-- the slots of the list are those that it holds
+pub list_held : (bs : List ℕ) (name : ℕ) (cs : List ℕ) → cs ≡ bs → (xs : List ℕ) → xs ≡ slots_named cs name → xs ≡ held bs name
+unfolding held
+list_held bs name cs same xs e = e ∙ ap (λ (ds : List ℕ). slots_named ds name) same
 
--- v is what was said of the slot
-module _ (bs : List ℕ) (name x : ℕ) (v : Verdict) (is : v ≡ test_fault bs name x) where
-  module _ (n : ¬ (v.number ≡ 0)) where
+-- a number above another is not 0
+pub above_some : (a k : ℕ) → a < k → 0 < k
+above_some a k l = omega arith
+
+-- all of these (le_of_lt and above_some: as above)
+pub ruleset slot_tests = (above_some, name_refuses, slot_small, slot_large, slot_inside, name_looked, told_on, le_of_lt)
+
+-- what was said of the slot
+module _ (bs : List ℕ) (name x : ℕ) where
+  module _ (r : Refusal) (is : verdict (number_of r.fault) r.place ≡ test_fault bs name x) (n : ℕ) (isN : n ≡ number_of r.fault) where
     -- what refuses is told by testing
-    pub test_refused : record { number = v.number; place = v.place; yes = false } ≡ test_answer bs name x
+    pub test_refused : record { number = n; place = r.place; yes = false } ≡ test_answer bs name x
     unfolding test_answer
-    test_refused = rw (← is) (simp (ne_eqb _ _ n))
+    test_refused = rw (isN, ← is) (simp (ne_eqb _ _ (no_zero r.fault)))
 
     -- and by telling the next slot
-    pub next_refused : record { number = v.number; place = v.place; slot = 0 } ≡ next_answer bs name x
+    pub next_refused : record { number = n; place = r.place; slot = 0 } ≡ next_answer bs name x
     unfolding next_answer
-    next_refused = rw (← is) (simp (ne_eqb _ _ n))
+    next_refused = rw (isN, ← is) (simp (ne_eqb _ _ (no_zero r.fault)))
 
-  module _ (z : v.number ≡ 0) where
-    good : Placed bs name x
-    good = placed bs name x (passes v _ is z)
-
-    -- the index is accepted
-    pub slot_looked : (look bs).number ≡ 0
-    slot_looked = good.name_is.looked
-
-    -- the name is one of its lists
-    pub slot_known : name < k_of bs
-    slot_known = good.name_is.below
-
+  module _ (is : accepted ≡ test_fault bs name x) where
     -- the slot is not 0
     pub slot_some : 0 < x
-    slot_some = good.low
+    slot_some = (placed bs name x (passes _ is)).low
 
-    -- r is the record of the name
-    module _ (r : List ℕ) (isR : r ≡ record_of bs name) (u B : ℕ) (isU : u ≡ u_of bs) (is_b : B ≡ block_length bs) where
-      -- it has no fault
-      pub slot_sound : record_fault u B (length r) r ≡ 0
-      slot_sound = records.record_sound bs slot_looked name slot_known r isR u B isU is_b
+    -- the index is accepted, and the name is one of its lists
+    pub slot_looked : (look bs).number ≡ 0
+    slot_looked = (placed bs name x (passes _ is)).name_is.looked
 
-      -- and tells whether it holds the slot
-      pub test_told : (t : Bool) → t ≡ has x (contents u B r) → record { number = 0; place = 0; yes = t } ≡ test_answer bs name x
-      unfolding test_answer held
-      test_told t e = rw (e, isU, is_b, isR, good.is)
+    pub slot_known : name < k_of bs
+    slot_known = (placed bs name x (passes _ is)).name_is.below
+
+    -- xs are the slots of the list
+    module _ (xs : List ℕ) (isX : xs ≡ held bs name) where
+      -- they tell whether they hold the slot
+      pub test_told : (t : Bool) → t ≡ has x xs → record { number = 0; place = 0; yes = t } ≡ test_answer bs name x
+      unfolding test_answer
+      test_told t e = rw (e, isX, ← is)
 
       -- and the next one
-      pub next_told : (y : ℕ) → y ≡ first_from x (contents u B r) → record { number = 0; place = 0; slot = y } ≡ next_answer bs name x
-      unfolding next_answer held
-      next_told y e = rw (e, isU, is_b, isR, good.is)
+      pub next_told : (o : Option ℕ) → o ≡ some_slot (first_from x xs) → (y : ℕ) → y ≡ unwrap_or o 0 → record { number = 0; place = 0; slot = y } ≡ next_answer bs name x
+      unfolding next_answer
+      next_told o isO y is_y = rw (is_y, isO, or_zero (first_from x xs), isX, ← is)
+
+-- all of these
+pub ruleset looking = (frame_refuses, lists_tell, told_on)
+
+pub ruleset parts = (part_refused, name_looked, name_known, part_told, directory_held, record_forward)
+
+pub ruleset lending = (nothing_lent, name_looked, name_known, record_lent)
+
+pub ruleset counting = (count_refused, name_looked, name_known, bits_there, sum_small, count_told)
+
+pub ruleset tests = (test_refused, slot_some, slot_looked, slot_known, list_held, test_told)
+
+pub ruleset nexts = (next_refused, slot_some, slot_looked, slot_known, list_held, next_told)

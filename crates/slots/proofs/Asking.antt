@@ -13,26 +13,31 @@ use Rattle.paper.specs.Look.{look}
 use Rattle.paper.specs.Question.{smallest, charged_at, places}
 use Rattle.paper.specs.Ask.{named, room_needed, ask_fault, ask_answer, ask_slice, MeetsAsk}
 use Rattle.paper.specs.declared.Verdict.{Verdict}
+use Rattle.paper.specs.Fault.{number_of}
 use Rattle.paper.specs.declared.Answer.{Answer}
+use Rattle.paper.specs.declared.refusal.Refusal.{Refusal}
 use Rattle.laws.proofs.Frames.{or_first, or_second, or_both}
 use Rattle.laws.proofs.Links.{link_bad, link_names, twelve_small, twelve}
 use Rattle.laws.proofs.Questions.{Good, good_on, good_passed}
 use Rattle.names.specs.Asked.{Asked}
 use Rattle.question.specs.Answered.{Answers}
 use Rattle.slots.specs.Unroomed.{unroomed, refusal}
-use Rattle.slots.proofs.Answers.{passes}
+use Rattle.laws.proofs.Faults.{no_zero, passes, told_on}
 
--- before the room: v is what looking said
-module _ (bs : List ℕ) (way : ℕ) (names : List ℕ) (v : Verdict) (is : v ≡ look bs) where
+-- before the room
+module _ (bs : List ℕ) (way : ℕ) (names : List ℕ) where
   -- the index is refused
-  pub index_refused : ¬ (v.number ≡ 0) → v ≡ unroomed bs way names
+  pub index_refused : (r : Refusal) → verdict (number_of r.fault) r.place ≡ look bs → verdict (number_of r.fault) r.place ≡ unroomed bs way names
   unfolding unroomed
-  index_refused n = rw (← is) (sym (or_first v _ n))
+  index_refused r is = rw (← is) (sym (or_first _ _ (no_zero r.fault)))
 
-  -- it is not, and the way and the names tell
-  pub names_tell : v.number ≡ 0 → (w : Verdict) → w ≡ fault14 way (fault10 names (fault11 (k_of bs) names accepted)) → w ≡ unroomed bs way names
+  -- it is not, and the way and the names tell; cs is the index that looking has accepted
+  pub names_tell : accepted ≡ look bs → (cs : List ℕ) → cs ≡ bs → (v : Verdict) → v ≡ fault14 way (fault10 names (fault11 (k_of cs) names accepted)) → v ≡ unroomed bs way names
   unfolding unroomed
-  names_tell z w e = e ∙ rw (← is) (sym (or_second v _ z))
+  names_tell is cs same v e = e ∙ rw same (rw (← is) (sym (or_second accepted _ refl)))
+
+-- all of these
+pub ruleset questions = (index_refused, names_tell, passes, told_on)
 
 -- a refusal for another reason than room stands, whatever the room
 stays : (bs : List ℕ) (way : ℕ) (names : List ℕ) (size : ℕ) (v : Verdict) → v ≡ unroomed bs way names → ¬ (v.number ≡ 0) → Dec ((look bs).number ≡ 0)
@@ -57,44 +62,44 @@ module _ (bs : List ℕ) (way : ℕ) (names before : List ℕ) where
         leaves = rw e h.slots;
       }
 
-  -- v is what all refusals but 12 say
-  module _ (v : Verdict) (is : v ≡ unroomed bs way names) where
-    -- refused for another reason than room
-    pub question_refused : ¬ (v.number ≡ 0) → (r : Answer) → r ≡ refusal v.number v.place → MeetsAsk bs way names before r before
-    question_refused n r e = rw e (refuses v (stays bs way names (length before) v is n (ℕ_discrete (look bs).number 0)) n)
+  -- refused for another reason than room
+  pub question_refused : (f : Refusal) → verdict (number_of f.fault) f.place ≡ unroomed bs way names → (r : Answer) → r ≡ refusal (number_of f.fault) f.place → MeetsAsk bs way names before r before
+  question_refused f is r e = rw e (refuses _ (stays bs way names (length before) _ is (no_zero f.fault) (ℕ_discrete (look bs).number 0)) (no_zero f.fault))
 
-    module _ (z : v.number ≡ 0) where
-      both : ((look bs).number ≡ 0) × Good (k_of bs) way names
-      unfolding unroomed
-      both = let p = or_both _ _ (passes v _ is z) in (p.0, (good_passed (k_of bs) way names accepted p.1).0)
+  module _ (is : accepted ≡ unroomed bs way names) where
+    both : ((look bs).number ≡ 0) × Good (k_of bs) way names
+    unfolding unroomed
+    both = let p = or_both _ _ (passes _ is) in (p.0, (good_passed (k_of bs) way names accepted p.1).0)
 
+    -- the index is accepted
+    pub question_looked : (look bs).number ≡ 0
+    question_looked = both.0
+
+    to_room : ask_fault bs way names (length before) ≡ fault12 (length before) (room_needed bs way names) accepted
+    unfolding ask_fault
+    to_room = or_second _ _ both.0 ∙ good_on (k_of bs) way names _ both.1
+
+    -- cs is the index that looking has accepted
+    module _ (cs : List ℕ) (same : cs ≡ bs) where
       -- not refused: the question can be answered
-      pub asked : Asked bs names
-      asked = let g = both.1 in record { looked = both.0; some = g.some; few = g.few; below = g.below }
+      pub asked : Asked cs names
+      asked = let g = both.1 in rw same (record { looked = both.0; some = g.some; few = g.few; below = g.below })
 
-      to_room : ask_fault bs way names (length before) ≡ fault12 (length before) (room_needed bs way names) accepted
-      unfolding ask_fault
-      to_room = or_second _ _ both.0 ∙ good_on (k_of bs) way names _ both.1
+      -- and ds and ns are the index and the names of the question that can be
+      module _ (ds ns : List ℕ) (isD : ds ≡ cs) (isN : ns ≡ names) where
+        module _ (need : ℕ) (least : need ≡ smallest (named ds ns)) where
+          need_is : need ≡ room_needed bs way names
+          unfolding room_needed
+          need_is = least ∙ rw (isD, same, isN)
 
-      module _ (need : ℕ) (isN : need ≡ smallest (named bs names)) where
-        -- but there is no room
-        pub no_room : length before < need → (r : Answer) → r ≡ refusal 12 need → MeetsAsk bs way names before r before
-        unfolding room_needed
-        no_room l r e = rw e (refuses (verdict 12 need) (to_room ∙ rw (← isN) (sym (twelve_small accepted _ need l))) (λ e. omega arith))
+          -- but there is no room
+          pub no_room : length before < need → (r : Answer) → r ≡ refusal 12 need → MeetsAsk bs way names before r before
+          no_room l r e = rw e (refuses (verdict 12 need) (to_room ∙ rw (← need_is) (sym (twelve_small accepted _ need l))) (λ e. omega arith))
 
-        enough : need ≤ length before → ask_fault bs way names (length before) ≡ accepted
-        unfolding room_needed
-        enough l = to_room ∙ rw (← isN) (sym (twelve accepted _ need l accepted refl))
+          -- there is, and it is answered
+          pub answered : need ≤ length before → (w : ℕ) → w ≡ way → (r : Answer) (after : List ℕ) → Answers ds w ns before r after → MeetsAsk bs way names before r after
+          answered l w isW r after h =
+              accepts (to_room ∙ rw (← need_is) (sym (twelve accepted _ need l accepted refl))) r after (rw (isD, same, isN, isW) at h)
 
-        -- there is room
-        pub room_enough : need ≤ length before → smallest (named bs names) ≤ length before
-        room_enough l = rw (← isN) l
-
-        module _ (l : need ≤ length before) (r : Answer) (after : List ℕ) where
-          -- answered by skips
-          pub answered_1 : way ≡ 1 → Answers bs 1 names before r after → MeetsAsk bs way names before r after
-          answered_1 e h = accepts (enough l) r after (rw e h)
-
-          -- or plainly
-          pub answered_0 : ¬ (way ≡ 1) → Answers bs 0 names before r after → MeetsAsk bs way names before r after
-          answered_0 n h = let k = both.1.known in let e : way ≡ 0 = omega arith in accepts (enough l) r after (rw e h)
+-- all of these
+pub ruleset askings = (question_refused, question_looked, asked, no_room, answered)

@@ -5,29 +5,28 @@ use mathlib.Core.List.{List}
 use lib.ListN.{length}
 use lib.Seq.{sets}
 use borrow.Author.Tests.{ne_eqb}
-use Rattle.paper.specs.Refusal.{finished}
+use Rattle.paper.specs.Refusal.{verdict, accepted, finished}
 use Rattle.paper.specs.Write.{written_with}
 use Rattle.paper.specs.Close.{close_fault, frame_bytes, close_answer, close_buffer, MeetsClose}
-use Rattle.paper.specs.declared.Verdict.{Verdict}
 use Rattle.paper.specs.declared.Written.{Written}
-use Rattle.closing.proofs.Checks.{Given, close_passed, close_accepted}
+use Rattle.closing.proofs.Checks.{Given, close_passed}
 use Rattle.closing.proofs.Puts.{frame_behind}
 use Rattle.slots.specs.Unmade.{unmade}
-use Rattle.slots.proofs.Answers.{passes}
+use Rattle.paper.specs.Fault.{number_of}
+use Rattle.paper.specs.declared.refusal.Refusal.{Refusal}
+use Rattle.laws.proofs.Faults.{no_zero, passes}
 
--- v is what all refusals say
-module _ (bs : List ℕ) (u B D : ℕ) (starts : List ℕ) (v : Verdict) (is : v ≡ close_fault bs u B D starts) where
+module _ (bs : List ℕ) (u B D : ℕ) (starts : List ℕ) where
   -- what refuses leaves all as it was
-  pub close_refused : ¬ (v.number ≡ 0) → (r : Written) → r ≡ unmade v.number v.place → MeetsClose bs u B D starts r bs
+  pub close_refused : (f : Refusal) → verdict (number_of f.fault) f.place ≡ close_fault bs u B D starts → (r : Written) → r ≡ unmade (number_of f.fault) f.place → MeetsClose bs u B D starts r bs
   unfolding close_answer close_buffer written_with
-  close_refused n r e = rw e (record { answers = rw (← is) (simp (ne_eqb _ _ n)); leaves = rw (← is) (simp (ne_eqb _ _ n)) })
+  close_refused f is r e =
+      let n = no_zero f.fault in
+      rw e (record { answers = rw (← is) (simp (ne_eqb _ _ n)); leaves = rw (← is) (simp (ne_eqb _ _ n)) })
 
-  module _ (z : v.number ≡ 0) where
-    passed : (close_fault bs u B D starts).number ≡ 0
-    passed = passes v _ is z
-
+  module _ (is : accepted ≡ close_fault bs u B D starts) where
     known : Given (length bs) B D starts
-    known = close_passed bs u B D starts passed
+    known = close_passed bs u B D starts (passes _ is)
 
     -- nothing refuses: the lists are few
     pub close_few : length starts ≤ 4096
@@ -45,6 +44,7 @@ module _ (bs : List ℕ) (u B D : ℕ) (starts : List ℕ) (v : Verdict) (is : v
     pub close_made : (size : ℕ) → size ≡ finished D (length starts) → (after : List ℕ) → after ≡ sets bs D (frame_bytes u B D starts)
         → MeetsClose bs u B D starts (record { number = 0; place = 0; length = size }) after
     unfolding close_answer close_buffer written_with
-    close_made size e after w =
-        let ok = close_accepted bs u B D starts passed in
-        record { answers = rw (ok, e); leaves = rw ok (w ∙ frame_behind bs u B D starts close_fits) }
+    close_made size e after w = record { answers = rw (← is, e); leaves = rw (← is) (w ∙ frame_behind bs u B D starts close_fits) }
+
+-- all of these
+pub ruleset closings = (close_refused, close_few, close_fits, close_small, close_made)

@@ -1,68 +1,68 @@
 // The library: every operation answers for any bytes and any numbers, and its promise says all of its answer.
+// Kept: the answers of the public functions have a number and a place, 0 where nothing is refused, and `next` tells 0 for no slot. Their promises speak
+// of these structs (`MeetsLook`, `MeetsNext`, `MeetsAsk` and the others), and the C interface hands them on. Inside, a refusal goes by name.
 #![tactic(auto)]
 
-ghost use Rattle.std.specs.Prelude.{◌≡◌, ◌+◌, ◌≤◌, length};
-ghost use Rattle.paper.specs.Bytes as bytes;
-ghost use Rattle.paper.specs.Look.{MeetsLook};
+ghost use Rattle.std.specs.Prelude.{◌≡◌, IfOk};
+ghost use Rattle.paper.specs.Look.{look, MeetsLook};
 ghost use Rattle.paper.specs.Ask.{MeetsAsk};
 ghost use Rattle.paper.specs.Close.{MeetsClose};
+ghost use Rattle.paper.specs.Fault.{number_of, told};
 ghost use Rattle.paper.specs.OneList.{name_fault, test_fault, MeetsTest, MeetsNext, MeetsCount, MeetsLend, MeetsPart};
 ghost use Rattle.paper.specs.Write.{MeetsWrite};
 ghost use Rattle.paper.specs.Reserve.{MeetsBound};
+ghost use Rattle.question.specs.Ways as ways;
 ghost use Rattle.slots.specs.Unmade.{unmade};
 ghost use Rattle.slots.specs.Unroomed.{unroomed, refusal};
 
 use closing::{check_close, closed_size, put_frame};
-use frame::{check_frame, check_lists, from_end, start_of};
-use names::record_of;
+use frame::{check_frame, check_lists, start_of};
+use names::Index;
 use pack::{check_write, lay_out, put_record};
+use paper::refusal::{Fault, Refusal};
 use paper::{Answer, Bound, Counted, Next, Part, Tested, Verdict, Written};
-use question::{answer_by_skips, answer_plainly, check_names, rank};
+use question::{Way, answer_by_skips, answer_plainly, check_names, rank};
 use record::count_record;
 use reserve::{check_bound, most_bytes};
 use search::{holds, next_from};
 
-// Looks at a whole index: 1 to 5, then its lists one after the other. The first fault found is the answer.
-pub fn look(index: &[u8]) -> Verdict
-    ensures { MeetsLook index.now result }
+// What looking finds: 1 to 5, then the lists one after the other, and the first fault.
+#[tactic(auto, using(crate::proofs::Answers::looking))]
+fn check(index: &[u8]) -> Result<(), Refusal>
+    ensures { told result ≡ look index.now }
 {
-    let number = check_frame(index);
-    if number != 0 {
-        return Verdict { number, place: 0 };
-    }
+    check_frame(index)?;
     check_lists(index)
 }
 
-// The index, then 11 of one name.
-fn check_name(index: &[u8], name: u32) -> Verdict
-    ensures { result ≡ name_fault index.now name }
+// Looks at a whole index. The first fault found is the answer.
+pub fn look(index: &[u8]) -> Verdict
+    ensures { MeetsLook index.now result }
 {
-    let seen = look(index);
-    if seen.number != 0 {
-        return seen;
+    check(index).into()
+}
+
+// The index, then 11 of one name.
+#[tactic(auto, using(crate::proofs::Answers::names))]
+fn check_name(index: &[u8], name: u32) -> Result<(), Refusal>
+    ensures { told result ≡ name_fault index.now name }
+{
+    check(index)?;
+    if (Index { bytes: index }).k() <= name {
+        return Err(Fault::Name.into());
     }
-    let k = from_end(index, 12);
-    if k <= name {
-        return Verdict {
-            number: 11,
-            place: 0,
-        };
-    }
-    Verdict {
-        number: 0,
-        place: 0,
-    }
+    Ok(())
 }
 
 // Where the record of one list lies in the index.
+#[tactic(auto, using(crate::proofs::Answers::parts))]
 pub fn part(index: &[u8], name: u32) -> Part
     ensures { MeetsPart index.now name result }
 {
-    let seen = check_name(index, name);
-    if seen.number != 0 {
+    if let Err(refusal) = check_name(index, name) {
         return Part {
-            number: seen.number,
-            place: seen.place,
+            number: refusal.fault.number(),
+            place: refusal.place,
             start: 0,
             length: 0,
         };
@@ -77,133 +77,104 @@ pub fn part(index: &[u8], name: u32) -> Part
     }
 }
 
-// The record that `part` found: a part of the index itself.
-fn record_at(index: &[u8], found: Part) -> &[u8]
-    requires { found.start + found.length ≤ length index.now }
-    ensures { result.now ≡ bytes.part index.now found.start (found.start + found.length) }
-{
-    let from = found.start as usize;
-    let to = from + found.length as usize;
-    &index[from..to]
-}
-
-// Lends the record of one list, a part of the caller's own slice. It is empty exactly where `count` refuses: a refused part lies from 0 to 0.
+// Lends the record of one list, a part of the caller's own slice. It is empty exactly where `count` refuses.
+#[tactic(auto, using(crate::proofs::Answers::lending))]
 pub fn lend(index: &[u8], name: u32) -> &[u8]
     ensures { MeetsLend index.now name result.now }
 {
-    let found = part(index, name);
-    record_at(index, found)
+    if check_name(index, name).is_err() {
+        return &[];
+    }
+    let accepted = Index { bytes: index };
+    accepted.record(name)
 }
 
 // Counts the slots that one list holds.
+#[tactic(auto, using(crate::proofs::Answers::counting))]
 pub fn count(index: &[u8], name: u32) -> Counted
     ensures { MeetsCount index.now name result }
 {
-    let found = part(index, name);
-    if found.number != 0 {
-        return Counted {
-            number: found.number,
-            place: found.place,
+    match check_name(index, name) {
+        Ok(()) => Counted {
+            number: 0,
+            place: 0,
+            count: count_record(Index { bytes: index }.record(name)),
+        },
+        Err(refusal) => Counted {
+            number: refusal.fault.number(),
+            place: refusal.place,
             count: 0,
-        };
-    }
-    let size = count_record(record_at(index, found));
-    Counted {
-        number: 0,
-        place: 0,
-        count: size,
+        },
     }
 }
 
 // The index, 11 of one name, and then 16 of a slot.
-fn check_slot(index: &[u8], name: u32, slot: u32) -> Verdict
-    ensures { result ≡ test_fault index.now name slot }
+#[tactic(auto, using(crate::proofs::Answers::slot_tests))]
+fn check_slot(index: &[u8], name: u32, slot: u32) -> Result<(), Refusal>
+    ensures { told result ≡ test_fault index.now name slot }
 {
-    let seen = check_name(index, name);
-    if seen.number != 0 {
-        return seen;
+    check_name(index, name)?;
+    if slot < 1 || (Index { bytes: index }).u() < slot {
+        return Err(Fault::Asked.into());
     }
-    let u = from_end(index, 20);
-    if slot < 1 {
-        return Verdict {
-            number: 16,
-            place: 0,
-        };
-    }
-    if u < slot {
-        return Verdict {
-            number: 16,
-            place: 0,
-        };
-    }
-    Verdict {
-        number: 0,
-        place: 0,
-    }
+    Ok(())
 }
 
 // Tests whether one list holds a slot.
+#[tactic(auto, using(crate::proofs::Answers::tests))]
 pub fn test(index: &[u8], name: u32, slot: u32) -> Tested
     ensures { MeetsTest index.now name slot result }
 {
-    let seen = check_slot(index, name, slot);
-    if seen.number != 0 {
-        return Tested {
-            number: seen.number,
-            place: seen.place,
+    match check_slot(index, name, slot) {
+        Ok(()) => Tested {
+            number: 0,
+            place: 0,
+            yes: holds(&Index { bytes: index }.list(name), slot),
+        },
+        Err(refusal) => Tested {
+            number: refusal.fault.number(),
+            place: refusal.place,
             yes: false,
-        };
-    }
-    let u = from_end(index, 20);
-    let block = from_end(index, 16);
-    let yes = holds(record_of(index, name), u, block, slot);
-    Tested {
-        number: 0,
-        place: 0,
-        yes,
+        },
     }
 }
 
 // Tells the next slot of one list: the least that is not below a slot, or 0 where the list has none.
+#[tactic(auto, using(crate::proofs::Answers::nexts))]
 pub fn next(index: &[u8], name: u32, slot: u32) -> Next
     ensures { MeetsNext index.now name slot result }
 {
-    let seen = check_slot(index, name, slot);
-    if seen.number != 0 {
-        return Next {
-            number: seen.number,
-            place: seen.place,
+    match check_slot(index, name, slot) {
+        Ok(()) => Next {
+            number: 0,
+            place: 0,
+            slot: next_from(&Index { bytes: index }.list(name), slot).unwrap_or(0),
+        },
+        Err(refusal) => Next {
+            number: refusal.fault.number(),
+            place: refusal.place,
             slot: 0,
-        };
-    }
-    let u = from_end(index, 20);
-    let block = from_end(index, 16);
-    let least = next_from(record_of(index, name), u, block, slot);
-    Next {
-        number: 0,
-        place: 0,
-        slot: least,
+        },
     }
 }
 
-// All refusals of a question but 12: the index, 14, 10, 11.
-fn check_question(index: &[u8], way: u32, names: &[u32]) -> Verdict
-    ensures { result ≡ unroomed index.now way names.now }
+// All refusals of a question but 12: the index, 14, 10, 11. The way is told.
+#[tactic(auto, using(crate::proofs::Asking::questions))]
+fn check_question(index: &[u8], way: u32, names: &[u32]) -> Result<Way, Refusal>
+    ensures told { told result ≡ unroomed index.now way names.now }
+    ensures known { IfOk result (λ known. ways.number_of known ≡ way) }
 {
-    let seen = look(index);
-    if seen.number != 0 {
-        return seen;
-    }
-    check_names(index, way, names)
+    check(index)?;
+    check_names(Index { bytes: index }, way, names)
 }
 
 // The answer to a question that is refused: nothing is counted.
-fn refused(number: u32, place: u32) -> Answer
-    ensures { result ≡ refusal number place }
+fn refused(found: Refusal) -> Answer
+    ensures { result ≡ refusal (number_of found.fault) found.place }
 {
     Answer {
-        number,
-        place,
+        number: found.fault.number(),
+        place: found.place,
         count: 0,
         looks: 0,
         codes: 0,
@@ -214,69 +185,76 @@ fn refused(number: u32, place: u32) -> Answer
 
 // Answers a question: what all lists named hold, at the front of `slots`, and 0 at every place behind. Nothing is written
 // before every refusal is ruled out.
+// Kept: the way comes as a number, and so it goes to `check_question`, which makes a `Way` of it. C hands it on, and `MeetsAsk` answers for any number.
+#[tactic(auto, using(crate::proofs::Asking::askings))]
 pub fn ask(index: &[u8], way: u32, names: &[u32], slots: &mut [u32]) -> Answer
     ensures { MeetsAsk index.now way names.now slots.old result slots.new }
 {
-    let fault = check_question(index, way, names);
-    if fault.number != 0 {
-        return refused(fault.number, fault.place);
-    }
-    let mut order = [0u32; 16];
-    let need = rank(index, names, &mut order);
+    let way = match check_question(index, way, names) {
+        Ok(way) => way,
+        Err(refusal) => return refused(refusal),
+    };
+    let question = rank(Index { bytes: index }, names);
+    let need = question.room;
     if slots.len() < need as usize {
-        return refused(12, need);
+        return refused(Refusal {
+            fault: Fault::Room,
+            place: need,
+        });
     }
-    if way == 1 {
-        return answer_by_skips(index, names, &order, slots);
+    match way {
+        Way::BySkips => answer_by_skips(&question, slots),
+        Way::Plainly => answer_plainly(&question, slots),
     }
-    answer_plainly(index, names, &order, slots)
 }
 
 // Tells the most bytes that a record can need with this cut and n slots above it, so that room can be reserved before anything is written.
+#[tactic(auto, using(crate::proofs::Reserving::bounds))]
 pub fn bound(u: u32, block: u32, cut: u32, n: u32) -> Bound
     ensures { MeetsBound u block cut n result }
 {
-    let number = check_bound(u, block, cut, n);
-    if number != 0 {
-        return Bound {
-            number,
+    match check_bound(u, block, cut, n) {
+        Ok(()) => Bound {
+            number: 0,
+            place: 0,
+            bytes: most_bytes(u, block, cut, n),
+        },
+        Err(fault) => Bound {
+            number: fault.number(),
             place: 0,
             bytes: 0,
-        };
-    }
-    let bytes = most_bytes(u, block, cut, n);
-    Bound {
-        number: 0,
-        place: 0,
-        bytes,
+        },
     }
 }
 
 // The answer to a writing or a closing that is refused: nothing has been made.
-fn unwritten(number: u32, place: u32) -> Written
-    ensures { result ≡ unmade number place }
+fn unwritten(refusal: Refusal) -> Written
+    ensures { result ≡ unmade (number_of refusal.fault) refusal.place }
 {
     Written {
-        number,
-        place,
+        number: refusal.fault.number(),
+        place: refusal.place,
         length: 0,
     }
 }
 
 // Writes the record of slots with a cut to the front of `room`; the bytes behind it stay. It is measured first, and nothing is written before
 // every refusal is ruled out.
+#[tactic(auto, using(crate::proofs::Writing::writings))]
 pub fn write(u: u32, block: u32, cut: u32, slots: &[u32], room: &mut [u8]) -> Written
     ensures { MeetsWrite u block cut slots.now room.old result room.new }
 {
-    let fault = check_write(u, block, cut, slots);
-    if fault.number != 0 {
-        return unwritten(fault.number, fault.place);
+    if let Err(refusal) = check_write(u, block, cut, slots) {
+        return unwritten(refusal);
     }
     let lay = lay_out(block, cut, slots);
     let end = lay.end;
     let length = end as u32;
     if room.len() < end {
-        return unwritten(12, length);
+        return unwritten(Refusal {
+            fault: Fault::Room,
+            place: length,
+        });
     }
     put_record(room, lay, block, cut, slots);
     Written {
@@ -288,12 +266,12 @@ pub fn write(u: u32, block: u32, cut: u32, slots: &[u32], room: &mut [u8]) -> Wr
 
 // Closes an index whose records lie in the first `total` bytes of `room`: directory and trailer are written behind them. Nothing is written
 // before every refusal is ruled out.
+#[tactic(auto, using(crate::proofs::Closing::closings))]
 pub fn close(room: &mut [u8], u: u32, block: u32, total: u32, starts: &[u32]) -> Written
     ensures { MeetsClose room.old u block total starts.now result room.new }
 {
-    let seen = check_close(&room[..], u, block, total, starts);
-    if seen.number != 0 {
-        return unwritten(seen.number, seen.place);
+    if let Err(found) = check_close(&room[..], u, block, total, starts) {
+        return unwritten(found);
     }
     put_frame(room, u, block, total, starts);
     let size = closed_size(total, starts) as u32;

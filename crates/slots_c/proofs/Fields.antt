@@ -13,6 +13,8 @@ use Rattle.paper.specs.OneList.{test_answer, next_answer, count_answer, part_ans
 use Rattle.paper.specs.Write.{write_answer, MeetsWrite}
 use Rattle.paper.specs.Reserve.{bound_answer, MeetsBound}
 use Rattle.paper.specs.Close.{close_answer, MeetsClose}
+use mathlib.Core.Bool.{Bool, true, false}
+use mir.Val.{bool_byte}
 use Rattle.paper.specs.Lists.{bit_of, up_from}
 use Rattle.paper.specs.Question.{places}
 use Rattle.paper.specs.declared.Verdict.{Verdict}
@@ -78,14 +80,18 @@ module _ (o₀ o : List ℕ) (from : ℕ) (v : List ℕ) (i : ℕ) (is : putting
   pub put_end : length v ≤ i → o ≡ sets o₀ from v
   put_end h = rw (drop_of_length-le v h) at is
 
-module _ (out one : List ℕ) (a b : ℕ) where
-  pub two_put : (two : List ℕ) → one ≡ set out 0 a → two ≡ set one 1 b → two ≡ fitted (a ∷ b ∷ []) out
-  two_put two h g =
-      g ∙ ap (λ (l : List ℕ). set l 1 b) (h ∙ ap (λ (l : List ℕ). set l 0 a) (fitted_none out) ∙ fitted_more [] a out) ∙
-      fitted_more (a ∷ []) b out
+-- fields that are put to the front
+fitted_front : (fields l : List ℕ) → sets l 0 fields ≡ fitted fields l
+fitted_front fields l = ap (λ (o : List ℕ). sets o 0 fields) (fitted_none l) ∙ fitted_run [] fields l 0 refl
 
-  pub third_put : (c : ℕ) (two : List ℕ) → one ≡ fitted (a ∷ b ∷ []) out → two ≡ set one 2 c → two ≡ fitted (a ∷ b ∷ c ∷ []) out
-  third_put c two h g = g ∙ ap (λ (l : List ℕ). set l 2 c) h ∙ fitted_more (a ∷ b ∷ []) c out
+-- fields that are put to the front are fitted there
+pub put_fitted : (fields put out out' : List ℕ) → out' ≡ sets out 0 put → put ≡ fields → out' ≡ fitted fields out
+put_fitted fields put out out' stored are = stored ∙ fitted_front put out ∙ ap (λ (x : List ℕ). fitted x out) are
+
+-- a flag as a byte is a test as a number
+pub as_bit : (t : Bool) → bool_byte t ≡ bit_of t
+as_bit true = refl
+as_bit false = refl
 
 -- what is stored of an answer that is the library's is handed over for the library's
 handed :
@@ -123,30 +129,24 @@ module _ (index out out' : List ℕ) where
   unfolding ask_answer places up_from
   sixteen way names before after a is = rw is.answers
 
-  module _ (way : ℕ) (names before after : List ℕ) (a : Answer) (is : MeetsAsk index way names before a after) (three four five looked : List ℕ) where
+  -- the fields of an answer, put in four steps
+  module _ (way : ℕ) (names before after : List ℕ) (a : Answer) (is : MeetsAsk index way names before a after) (three five looked : List ℕ) where
     abbrev first : List ℕ
-    first = a.number ∷ a.place ∷ a.count ∷ a.looks ∷ a.codes ∷ []
+    first = a.number ∷ a.place ∷ a.count ∷ []
 
-    five_put : three ≡ fitted (a.number ∷ a.place ∷ a.count ∷ []) out → four ≡ set three 3 a.looks → five ≡ set four 4 a.codes → five ≡ fitted first out
-    five_put h looks codes =
-        codes ∙ ap (λ (l : List ℕ). set l 4 a.codes) (
-        looks ∙ ap (λ (l : List ℕ). set l 3 a.looks) h ∙ fitted_more (a.number ∷ a.place ∷ a.count ∷ []) a.looks out
-        ) ∙ fitted_more (a.number ∷ a.place ∷ a.count ∷ a.looks ∷ []) a.codes out
+    abbrev sums : List ℕ
+    sums = a.looks ∷ a.codes ∷ []
 
-    pub ask-handed :
-        three ≡ fitted (a.number ∷ a.place ∷ a.count ∷ []) out →
-        four ≡ set three 3 a.looks →
-        five ≡ set four 4 a.codes →
-        looked ≡ sets five 5 a.looks16 →
-        out' ≡ sets looked 21 a.codes16 →
-        HandsAsk index way names before out a.number after out'
-    ask-handed h looks codes looks16 codes16 =
-        let p : looked ≡ fitted (first ++ a.looks16) out = looks16 ∙ ap (λ (l : List ℕ). sets l 5 a.looks16) (five_put h looks codes) ∙ fitted_run first a.looks16 out 5 refl in
+    pub ask-handed : three ≡ fitted first out → five ≡ sets three 3 sums → looked ≡ sets five 5 a.looks16 → out' ≡ sets looked 21 a.codes16
+        → HandsAsk index way names before out a.number after out'
+    ask-handed h sum looks16 codes16 =
+        let p : five ≡ fitted (first ++ sums) out = sum ∙ ap (λ (l : List ℕ). sets l 3 sums) h ∙ fitted_run first sums out 3 refl in
+        let q : looked ≡ fitted (first ++ sums ++ a.looks16) out = looks16 ∙ ap (λ (l : List ℕ). sets l 5 a.looks16) p ∙ fitted_run (first ++ sums) a.looks16 out 5 refl in
         let l = sixteen way names before after a is in
-        let n : 21 ≡ length (first ++ a.looks16) = omega arith in
-        let q = codes16 ∙ ap (λ (l : List ℕ). sets l 21 a.codes16) p ∙ fitted_run (first ++ a.looks16) a.codes16 out 21 n in
+        let n : 21 ≡ length (first ++ sums ++ a.looks16) = omega arith in
+        let r = codes16 ∙ ap (λ (l : List ℕ). sets l 21 a.codes16) q ∙ fitted_run (first ++ sums ++ a.looks16) a.codes16 out 21 n in
         record {
-          hands = handed (λ a. a.number) answer_fields (ask_answer index way names (length before)) a out out' is.answers q;
+          hands = handed (λ a. a.number) answer_fields (ask_answer index way names (length before)) a out out' is.answers r;
           slots = is.leaves;
         }
 

@@ -3,52 +3,23 @@
 // caller lends, since a u64 holds each of them: a shorter slice takes those that fit, and what stood behind them stays.
 #![tactic(auto)]
 
-ghost use Rattle.std.specs.Prelude.{◌≡◌, ◌≤◌, ◌∷◌, [], set};
+ghost use Rattle.std.specs.Prelude.{◌≡◌, ◌≤◌};
 ghost use Rattle.std.proofs.lemmas.List.Edits.{sets};
-ghost use Rattle.paper.specs.Lists.{bit_of};
-ghost use Rattle.slots_c.specs.Exported.{fitted, HandsLook, HandsAsk, HandsTest, HandsNext, HandsCount, HandsLend, HandsBound, HandsWrite, HandsClose};
+ghost use Rattle.slots_c.specs.Exported.{HandsLook, HandsAsk, HandsTest, HandsNext, HandsCount, HandsLend, HandsBound, HandsWrite, HandsClose};
 
 use slots::{ask, bound, close, count, look, next, part, test, write};
 
-// One field, where the slice has a place for it.
-fn put(out: &mut [u64], i: usize, field: u64)
-    ensures { out.new ≡ set out.old i field }
-{
-    if i < out.len() {
-        out[i] = field;
-    }
-}
-
-// The sixteen places of an answer, field by field from `from` on. (`from` is 5 or 21, so no field's number is too large to be counted.)
-fn put_places(out: &mut [u64], from: usize, places: [u64; 16])
+// Puts fields, one after the other, to the places from `from` on, as far as the slice has places for them.
+fn put(out: &mut [u64], from: usize, fields: &[u64])
     requires { from ≤ 21 }
-    ensures { out.new ≡ sets out.old from places }
+    ensures { out.new ≡ sets out.old from fields.now }
 {
-    let mut i: usize = 0;
-    while i < 16 {
-        put(out, from + i, places[i]);
-        i = i + 1;
+    for (i, field) in fields.iter().enumerate() {
+        let at = from + i;
+        if at < out.len() {
+            out[at] = *field;
+        }
     }
-}
-
-fn put_two(out: &mut [u64], a: u32, b: u32)
-    ensures { out.new ≡ fitted (a ∷ b ∷ []) out.old }
-{
-    put(out, 0, a as u64);
-    put(out, 1, b as u64);
-}
-
-fn put_three(out: &mut [u64], a: u32, b: u32, c: u32)
-    ensures { out.new ≡ fitted (a ∷ b ∷ c ∷ []) out.old }
-{
-    put_two(out, a, b);
-    put(out, 2, c as u64);
-}
-
-fn bit(yes: bool) -> u32
-    ensures { result ≡ bit_of yes }
-{
-    if yes { 1 } else { 0 }
 }
 
 // out: number place
@@ -57,7 +28,7 @@ pub extern "C" fn slots_look(index: &[u8], out: &mut [u64]) -> u32
     ensures { HandsLook index.now out.old result out.new }
 {
     let seen = look(index);
-    put_two(out, seen.number, seen.place);
+    put(out, 0, &[u64::from(seen.number), u64::from(seen.place)]);
     seen.number
 }
 
@@ -73,13 +44,18 @@ pub extern "C" fn slots_ask(
     ensures { HandsAsk index.now way names.now slots.old out.old result slots.new out.new }
 {
     let answer = ask(index, way, names, slots);
-    put_three(out, answer.number, answer.place, answer.count);
-    put(out, 3, answer.looks);
-    put(out, 4, answer.codes);
-    let looks = answer.looks16;
-    put_places(out, 5, looks);
-    let codes = answer.codes16;
-    put_places(out, 21, codes);
+    put(
+        out,
+        0,
+        &[
+            u64::from(answer.number),
+            u64::from(answer.place),
+            u64::from(answer.count),
+        ],
+    );
+    put(out, 3, &[answer.looks, answer.codes]);
+    put(out, 5, &answer.looks16);
+    put(out, 21, &answer.codes16);
     answer.number
 }
 
@@ -89,7 +65,15 @@ pub extern "C" fn slots_test(index: &[u8], name: u32, slot: u32, out: &mut [u64]
     ensures { HandsTest index.now name slot out.old result out.new }
 {
     let tested = test(index, name, slot);
-    put_three(out, tested.number, tested.place, bit(tested.yes));
+    put(
+        out,
+        0,
+        &[
+            u64::from(tested.number),
+            u64::from(tested.place),
+            u64::from(tested.yes),
+        ],
+    );
     tested.number
 }
 
@@ -99,7 +83,15 @@ pub extern "C" fn slots_next(index: &[u8], name: u32, slot: u32, out: &mut [u64]
     ensures { HandsNext index.now name slot out.old result out.new }
 {
     let told = next(index, name, slot);
-    put_three(out, told.number, told.place, told.slot);
+    put(
+        out,
+        0,
+        &[
+            u64::from(told.number),
+            u64::from(told.place),
+            u64::from(told.slot),
+        ],
+    );
     told.number
 }
 
@@ -109,7 +101,15 @@ pub extern "C" fn slots_count(index: &[u8], name: u32, out: &mut [u64]) -> u32
     ensures { HandsCount index.now name out.old result out.new }
 {
     let counted = count(index, name);
-    put_three(out, counted.number, counted.place, counted.count);
+    put(
+        out,
+        0,
+        &[
+            u64::from(counted.number),
+            u64::from(counted.place),
+            u64::from(counted.count),
+        ],
+    );
     counted.number
 }
 
@@ -119,7 +119,7 @@ pub extern "C" fn slots_lend(index: &[u8], name: u32, out: &mut [u64]) -> u32
     ensures { HandsLend index.now name out.old result out.new }
 {
     let lies = part(index, name);
-    put_two(out, lies.start, lies.length);
+    put(out, 0, &[u64::from(lies.start), u64::from(lies.length)]);
     lies.length
 }
 
@@ -129,7 +129,15 @@ pub extern "C" fn slots_bound(u: u32, block: u32, cut: u32, n: u32, out: &mut [u
     ensures { HandsBound u block cut n out.old result out.new }
 {
     let most = bound(u, block, cut, n);
-    put_three(out, most.number, most.place, most.bytes);
+    put(
+        out,
+        0,
+        &[
+            u64::from(most.number),
+            u64::from(most.place),
+            u64::from(most.bytes),
+        ],
+    );
     most.number
 }
 
@@ -146,7 +154,15 @@ pub extern "C" fn slots_write(
     ensures { HandsWrite u block cut slots.now room.old out.old result room.new out.new }
 {
     let written = write(u, block, cut, slots, room);
-    put_three(out, written.number, written.place, written.length);
+    put(
+        out,
+        0,
+        &[
+            u64::from(written.number),
+            u64::from(written.place),
+            u64::from(written.length),
+        ],
+    );
     written.number
 }
 
@@ -163,6 +179,14 @@ pub extern "C" fn slots_close(
     ensures { HandsClose room.old u block total starts.now out.old result room.new out.new }
 {
     let closed = close(room, u, block, total, starts);
-    put_three(out, closed.number, closed.place, closed.length);
+    put(
+        out,
+        0,
+        &[
+            u64::from(closed.number),
+            u64::from(closed.place),
+            u64::from(closed.length),
+        ],
+    );
     closed.number
 }

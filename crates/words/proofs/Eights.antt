@@ -1,21 +1,16 @@
 -- Set bits counted in several bytes at once: they are the ones of the number that the bytes spell.
 use Prim.Native.Nat.{ℕ, ◌+◌, ◌-◌, ◌*◌, ◌/◌, ◌%◌, ◌^◌, ◌≤◌, ◌<◌}
-use mathlib.Core.Path.{◌≡◌, refl, sym}
+use mathlib.Core.Path.{◌≡◌, refl, sym, ap, ◌∙◌}
 use mathlib.Core.List.{List}
 use native.Mathlib.Omega.{arith}
 use lib.ListN.{length}
-use lib.Count.{ones, ones_cat}
+use lib.Count.{ones, ones_cat, ones-le}
 use Rattle.paper.specs.Bytes.{byte_at, u32_at}
 use Rattle.paper.specs.Lists.{keep, up_from}
 use Rattle.paper.specs.Record.{slots_to_cut}
 use Rattle.laws.proofs.Parts.{AllBytes}
 use Rattle.laws.proofs.Words.{word_bound}
-use Rattle.words.specs.Ones.{top_ones}
-use Rattle.words.proofs.Ones.{counted, turn}
-
--- all ones of a byte. `top_ones` stays shut: at the numeral 8 it would compute
-byte_ones : (b : ℕ) → b < 256 → ones b ≡ top_ones b 8
-byte_ones b h = let d : b / 1 ≡ b = omega arith in rw d at (counted b 8 h (omega arith))
+use Rattle.words.proofs.Ones.{turn, byte_ones}
 
 module _ (bits : List ℕ) where
   -- the w bytes from i on have as many set bits as the number v has ones
@@ -53,12 +48,30 @@ module _ (bits : List ℕ) where
         let e : u32_at bits (i + 4) * 4294967296 + u32_at bits i ≡ u32_at bits i + 4294967296 * u32_at bits (i + 4) = omega arith in
         rw e at (join i 4 4 (u32_at bits i) (u32_at bits (i + 4)) (word_bound bits i all) (four i) (four (i + 4)))
 
-  -- the loop over eights: before the first of them nothing is counted
-  pub eights_begin : 0 ≡ length (slots_to_cut (8 * 0) bits)
-  unfolding slots_to_cut keep up_from
-  eights_begin = refl
+-- what holds where `turn` eights have been counted
+pub record Eighths (bits : List ℕ) (turn n : ℕ) : Type 0 where
+  pub so : n ≡ length (slots_to_cut (64 * turn) bits)
+  pub few : n ≤ 64 * turn
 
-  -- where no further one ends by `to`, all whose last byte lies before it are
-  module _ (at n to : ℕ) (so : n ≡ length (slots_to_cut (8 * at) bits)) where
-    pub eights_end : at % 8 ≡ 0 → at ≤ to → to < at + 8 → n ≡ length (slots_to_cut (8 * (to - to % 8)) bits)
-    eights_end z l h = let e : at ≡ to - to % 8 = omega arith in rw (← e) so
+pub eights_begin : (bits : List ℕ) → Eighths bits 0 0
+unfolding slots_to_cut keep up_from
+eights_begin bits = record { so = refl; few = omega arith }
+
+module _ (bits : List ℕ) (turn n : ℕ) (h : Eighths bits turn n) where
+  -- eight bytes more
+  pub eights_on : AllBytes bits → (v r : ℕ) → v < 18446744073709551616 → v ≡ u32_at bits (8 * turn) + 4294967296 * u32_at bits (8 * turn + 4) → r ≡ ones v
+      → Eighths bits (turn + 1) (n + r)
+  eights_on all v r small spells counts =
+      let c = eight bits all (8 * turn) in
+      let k : r ≡ ones (u32_at bits (8 * turn) + 4294967296 * u32_at bits (8 * turn + 4)) = counts ∙ ap ones spells in
+      let e : 8 * (8 * turn) ≡ 64 * turn = omega arith in
+      let f : 8 * (8 * turn + 8) ≡ 64 * (turn + 1) = omega arith in
+      let d : length (slots_to_cut (64 * (turn + 1)) bits) ≡ length (slots_to_cut (64 * turn) bits) + ones (u32_at bits (8 * turn) + 4294967296 * u32_at bits (8 * turn + 4)) = rw (e, f) at c in
+      record { so = omega (arith, h.so, k, d); few = omega (arith, h.few, ones-le 64 v (omega arith), counts) }
+
+  -- all whose last byte lies before `to` are counted
+  pub eights_end : (to : ℕ) → to / 8 ≤ turn → turn ≤ to / 8 → (n ≡ length (slots_to_cut (8 * (to - to % 8)) bits)) × (n ≤ 8 * (to - to % 8))
+  eights_end to a b = let e : 64 * turn ≡ 8 * (to - to % 8) = omega arith in (rw e at h.so, rw e at h.few)
+
+-- what the goals of `ones_by_eights` go by
+pub ruleset steps = (eights_begin, eights_end)

@@ -32,3 +32,6 @@ module _ (bits : List ℕ) (c : ℕ) where
       let s = 7 - (c - 1) % 8 in
       let b = byte_at bits ((c - 1) / 8) in
       ap (λ (m : ℕ). ltb 0 (bit_and b (m - 1))) (moved s (omega arith)) ∙ ap (ltb 0) (and_mask b s) ∙ unused_low bits c l
+
+-- what the goals of `rubbish` go by
+pub ruleset unused_bits = (moved_some, none_beyond, masked)

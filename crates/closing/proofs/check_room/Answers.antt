@@ -1,11 +1,6 @@
-use Rattle.closing.proofs.Checks.{size_large, size_roomless, starts_tell}
+use Rattle.laws.proofs.Faults.{told_on}
+use Rattle.closing.proofs.Checks.{starts_tell}
 use Rattle.closing.proofs.check_room.Goals as goal
 
-pub returns-then-size-gt16777216 : goal.returns-then-size-gt16777216
-returns-then-size-gt16777216 c = search size_large
-
-pub returns-then-room-size : goal.returns-then-room-size
-returns-then-room-size c = search size_roomless
-
-pub returns : goal.returns
-returns c = search starts_tell
+pub returns-in_err-check_starts : goal.returns-in_err-check_starts
+returns-in_err-check_starts c = rw (told_on c.from_residual.result _ c.from_residual.ensures.1) (search (starts_tell, c.in_err-check_starts.ensures))

@@ -1,9 +1,10 @@
-use borrow.Author.Rules.{rules}
+use native.Mathlib.Omega.{arith}
+use Rattle.laws.proofs.Codes.{ways}
 use Rattle.codes.proofs.Standing.{known}
 use Rattle.codes.proofs.known_code.Goals as goal
 
-pub returns-then-a-lt128 : goal.returns-then-a-lt128
-returns-then-a-lt128 c = (search known, search rules)
+pub returns-then-b-lt128 : goal.returns-then-b-lt128
+returns-then-b-lt128 c = (search known, grind (arith, ways))
 
-pub known_two-requires : goal.known_two-requires
-known_two-requires c = search (known, rules)
+pub returns : goal.returns
+returns c = (search known, grind (arith, ways))

@@ -1,30 +1,17 @@
-use Rattle.laws.proofs.Codes.{ways}
+use mathlib.Core.Path.{◌∙◌}
+use Rattle.laws.proofs.Codes.{two, three}
 use borrow.Author.Rules.{rules}
 use Rattle.codes.proofs.read_code.Goals as goal
 
-pub returns-then-s-at : goal.returns-then-s-at
-returns-then-s-at c = record { result_value = search ways; inside = search rules }
+pub returns-then-b-lt128-clause-result_value : goal.returns-then-b-lt128-clause-result_value
+returns-then-b-lt128-clause-result_value c =
+    let a = c.in_ok-get.ensures.lookup in
+    let b = c.in_ok-get-2.ensures.lookup in
+    two _ _ _ a.3.0 (c.from-a.ensures ∙ a.3.1 0) (search rules) _ b.3.0 (c.from-b.ensures ∙ b.3.1 0) (search rules) (search rules)
 
-pub returns-then-a-lt128 : goal.returns-then-a-lt128
-returns-then-a-lt128 c = record { result_value = search ways; inside = search rules }
-
-pub returns-then-s-at-2 : goal.returns-then-s-at-2
-returns-then-s-at-2 c = record { result_value = search ways; inside = search rules }
-
-pub returns-then-b-eq0 : goal.returns-then-b-eq0
-returns-then-b-eq0 c = record { result_value = search ways; inside = search rules }
-
-pub returns-then-b-lt128 : goal.returns-then-b-lt128
-returns-then-b-lt128 c = record { result_value = search ways; inside = search rules }
-
-pub returns-then-s-at-3 : goal.returns-then-s-at-3
-returns-then-s-at-3 c = record { result_value = search ways; inside = search rules }
-
-pub returns-then-c-eq0 : goal.returns-then-c-eq0
-returns-then-c-eq0 c = record { result_value = search ways; inside = search rules }
-
-pub returns-then-c-lt128 : goal.returns-then-c-lt128
-returns-then-c-lt128 c = record { result_value = search ways; inside = search rules }
-
-pub returns : goal.returns
-returns c = record { result_value = search ways; inside = search rules }
+pub returns-clause-result_value : goal.returns-clause-result_value
+returns-clause-result_value c =
+    let a = c.in_ok-get.ensures.lookup in
+    let b = c.in_ok-get-2.ensures.lookup in
+    let d = c.in_ok-get-3.ensures.lookup in
+    three _ _ _ a.3.0 (c.from-a.ensures ∙ a.3.1 0) (search rules) _ b.3.0 (c.from-b.ensures ∙ b.3.1 0) (search rules) _ d.3.0 (c.from-c.ensures ∙ d.3.1 0) (search rules) (search rules)

@@ -1,22 +1,22 @@
-use mathlib.Core.Path.{◌∙◌, ap}
-use Rattle.quick.specs.Words.{in_pairs}
 use borrow.Author.Rules.{rules}
-use Rattle.quick.proofs.Places.{glance_begin, glance_turn, glance_end}
+use native.Mathlib.Omega.{arith}
+use Rattle.quick.proofs.Places.{glance_begin}
+use Rattle.glance.proofs.Turns.{pairs_on, pairs_told}
 use Rattle.glance.proofs.totals.Goals as goal
 
 pub loop-i-init : goal.loop-i-init
-loop-i-init c = search (glance_begin, rules)
+loop-i-init c = let bytes = c.type_inv.s in
+    let first = (bytes 0).fits in
+    glance_begin c.args.s.now c.from-first.result c.requires.0 c.from-first.ensures (omega (arith, c.from-first.ensures))
 
 pub loop-i-preserved : goal.loop-i-preserved
-loop-i-preserved c = let l = c.loop-i in
-    let bytes = c.type_inv.s in
-    glance_turn c.args.s.now (λ i. (bytes i).fits) l.i l.bad l.low l.led l.on l.invariant _ _ _ _ _ _
-    c.wrong_in-bad.ensures c.in_pairs-low.ensures.0 (c.in_pairs-led.ensures.0 ∙ ap in_pairs c.led_in.ensures) c.on_in-on.ensures.0
-    (search rules) (search rules) (search rules)
+loop-i-preserved c = let bytes = c.type_inv.s in
+    let l = c.loop-i in
+    pairs_on c.args.s.now l.i l.sums.wrong l.sums.low l.sums.led l.sums.on l.invariant (λ i. (bytes i).fits) _ _ _ _ _ _ c.and-sums.ensures (search rules)
+    c.u64_at.ensures c.u64_at-in-loop-i.ensures
 
 pub returns : goal.returns
-returns c = let l = c.loop-i in
-    let bytes = c.type_inv.s in
-    glance_end c.args.s.now (λ i. (bytes i).fits) l.i l.bad l.low l.led l.on l.invariant _ _ _ _ _ _
-    c.wrong_in.ensures c.in_pairs.ensures.0 (c.in_pairs-2.ensures.0 ∙ ap in_pairs c.led_in-2.ensures) c.on_in.ensures.0
-    (search rules) (search rules) (search rules) (rw c.u64_at.ensures) (rw c.u64_at-2.ensures)
+returns c = let bytes = c.type_inv.s in
+    let l = c.loop-i in
+    pairs_told c.args.s.now l.i l.sums.wrong l.sums.low l.sums.led l.sums.on l.invariant (λ i. (bytes i).fits) _ _ _ _ _ _ c.and.ensures
+    (search rules) (search rules) (search rules) c.upper.ensures c.upper-2.ensures c.told.ensures

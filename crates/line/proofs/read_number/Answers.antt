@@ -1,57 +1,34 @@
-use borrow.Author.Rules.{rules}
-use Rattle.line.proofs.Reading.{numbers}
+use Rattle.std.proofs.Common.{◌≡◌, ◌+◌, ◌-◌, ◌*◌, arith}
+use Rattle.line.proofs.Reading.{number_below, number_above, number_large, number_more}
 use Rattle.line.proofs.read_number.Goals as goal
+use Rattle.line.proofs.read_number.Goals.{then-b-lt48-via-then-b-lt48, then-b-lt48-via-else-b-lt48+then-b-gt57}
 
-pub loop-i-init : goal.loop-i-init
-loop-i-init c = search (numbers, rules)
+pub returns-then-b-lt48-clause-result_value : goal.returns-then-b-lt48-clause-result_value
+returns-then-b-lt48-clause-result_value c =
+    let i = c.loop-i.invariant in
+    let h = c.loop-i-test.true in
+    let b = c.byte-b.ensures.0 in
+    let p = c.is_parting.ensures in
+    elim c.then-b-lt48.branch [
+      | then-b-lt48-via-then-b-lt48 w ↦ number_below _ _ _ _ i h _ b _ p c.if-is_parting.false w.if-b-lt48.true
+      | then-b-lt48-via-else-b-lt48+then-b-gt57 w ↦ number_above _ _ _ _ i h _ b _ p c.if-is_parting.false w.if-b-lt48.false w.if-b-gt57.true
+    ]
 
-pub byte-b-requires : goal.byte-b-requires
-byte-b-requires c = search (numbers, rules)
+pub returns-in_err-checked_mul-clause-result_value : goal.returns-in_err-checked_mul-clause-result_value
+returns-in_err-checked_mul-clause-result_value c =
+    rw c.from_residual.ensures
+    (number_large _ _ _ _ c.loop-i.invariant c.loop-i-test.true _ c.byte-b.ensures.0 _ c.is_parting.ensures c.if-is_parting.false c.if-b-lt48.false c.if-b-gt57.false
+    (omega (arith, c.in_err-checked_mul.ensures)))
 
-pub is_parting-requires : goal.is_parting-requires
-is_parting-requires c = search (numbers, rules)
-
-pub overflow_cast-result : goal.overflow_cast-result
-overflow_cast-result c = search (numbers, rules)
-
-pub overflow_add-result : goal.overflow_add-result
-overflow_add-result c = search (numbers, rules)
-
-pub returns-then-is_parting : goal.returns-then-is_parting
-returns-then-is_parting c = search (numbers, rules)
-
-pub returns-then-b-lt48 : goal.returns-then-b-lt48
-returns-then-b-lt48 c = search (numbers, rules)
-
-pub returns-then-b-gt57 : goal.returns-then-b-gt57
-returns-then-b-gt57 c = search (numbers, rules)
-
-pub overflow_mul-next : goal.overflow_mul-next
-overflow_mul-next c = search (numbers, rules)
-
-pub overflow_cast-next : goal.overflow_cast-next
-overflow_cast-next c = search (numbers, rules)
-
-pub overflow_add-next : goal.overflow_add-next
-overflow_add-next c = search (numbers, rules)
-
-pub returns-then-next-gt4294967295 : goal.returns-then-next-gt4294967295
-returns-then-next-gt4294967295 c = search (numbers, rules)
-
-pub overflow_add-i : goal.overflow_add-i
-overflow_add-i c = search (numbers, rules)
-
-pub loop-i-smaller : goal.loop-i-smaller
-loop-i-smaller c = search (numbers, rules)
+pub returns-in_err-value-clause-result_value : goal.returns-in_err-value-clause-result_value
+returns-in_err-value-clause-result_value c =
+    rw c.from_residual-in_err-value.ensures
+    (number_large _ _ _ _ c.loop-i.invariant c.loop-i-test.true _ c.byte-b.ensures.0 _ c.is_parting.ensures c.if-is_parting.false c.if-b-lt48.false c.if-b-gt57.false
+    (omega (arith, c.in_ok-checked_mul.ensures, c.in_err-value.ensures)))
 
 pub loop-i-preserved : goal.loop-i-preserved
-loop-i-preserved c = search (numbers, rules)
-
-pub overflow_cast-result-2 : goal.overflow_cast-result-2
-overflow_cast-result-2 c = search (numbers, rules)
-
-pub overflow_add-result-2 : goal.overflow_add-result-2
-overflow_add-result-2 c = search (numbers, rules)
-
-pub returns : goal.returns
-returns c = search (numbers, rules)
+loop-i-preserved c =
+    let e : c.in_ok-value.value ≡ 10 * c.loop-i.value + (c.byte-b.result - 0x30) = omega (arith, c.in_ok-checked_mul.ensures, c.in_ok-value.ensures) in
+    rw e
+    (number_more _ _ _ _ c.loop-i.invariant c.loop-i-test.true _ c.byte-b.ensures.0 _ c.is_parting.ensures c.if-is_parting.false c.if-b-lt48.false c.if-b-gt57.false
+    (omega (arith, c.in_ok-checked_mul.ensures, c.in_ok-value.ensures)))

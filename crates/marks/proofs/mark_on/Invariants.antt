@@ -1,10 +1,8 @@
-use mathlib.Core.Path.{◌≡◌}
-use mathlib.Core.List.{◌∷◌}
-use Rattle.marks.specs.Marks.{slots_left, Piece}
+use Prim.Native.Nat.{◌-◌, ◌≤◌}
+use lib.ListN.{length}
+use Rattle.record.specs.Opened.{block_slots}
+use Rattle.marks.specs.Marks.{Piece}
 use Rattle.marks.proofs.mark_on.Given as goal
 
-abbrev pub invariant-loop-left : goal.invariant-loop-left
-invariant-loop-left l = (l.base ≡ l.initial.y) × Piece l.u l.s (l.initial.y ∷ slots_left l.u l.s l.initial.at l.initial.left l.initial.y) l.initial.marks l.initial.y l.initial.left l.marks l.at l.left l.y
-
-abbrev pub decreases-loop-left : goal.decreases-loop-left
-decreases-loop-left l = l.left
+abbrev pub invariant-loop-read : goal.invariant-loop-read
+invariant-loop-read l = let b = l.fn.block in (l.at ≤ length b.codes.now) × Piece b.u b.codes.now (block_slots b) l.initial.marks b.first b.count l.marks l.at (b.count - l.read) l.y

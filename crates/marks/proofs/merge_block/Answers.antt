@@ -1,19 +1,16 @@
 use borrow.Author.Rules.{rules}
-use Rattle.marks.proofs.Waiting.{clear_here, block_done, block_none, block_next}
+use Rattle.marks.proofs.Waiting.{block_done, block_none, block_next}
 use Rattle.marks.proofs.Joining.{block_begin}
 use Rattle.marks.proofs.merge_block.Goals as goal
 
-pub loop-p-init : goal.loop-p-init
-loop-p-init c = (search rules, search rules, search block_begin)
-
-pub mark_on-read-requires : goal.mark_on-read-requires
-mark_on-read-requires c = (search rules, search clear_here)
+pub pieces-init : goal.pieces-init
+pieces-init c = (search rules, search block_begin)
 
 pub returns-then-read-eq0 : goal.returns-then-read-eq0
-returns-then-read-eq0 c = search block_done
+returns-then-read-eq0 c = search (block_done, rules)
 
-pub returns-then-count-told : goal.returns-then-count-told
-returns-then-count-told c = search block_none
+pub returns-then-n-told : goal.returns-then-n-told
+returns-then-n-told c = search (block_none, rules)
 
-pub loop-p-preserved : goal.loop-p-preserved
-loop-p-preserved c = (search rules, search rules, search block_next)
+pub pieces-preserved : goal.pieces-preserved
+pieces-preserved c = (search rules, search (block_next, rules))

@@ -1,11 +1,6 @@
-use Prim.Native.Nat.{◌-◌}
-use mathlib.Core.Path.{◌≡◌}
-use lib.ListN.{length}
+use Prim.Native.Nat.{◌+◌}
 use Rattle.question.proofs.Asking.{Costing}
 use Rattle.question.proofs.answer_by_skips.Given as goal
 
-abbrev pub invariant-loop-r : goal.invariant-loop-r
-invariant-loop-r l = (length l.slots ≡ length l.initial.slots) × Costing l.index l.names l.slots l.left l.r l.looks l.codes l.looks16 l.codes16
-
-abbrev pub decreases-loop-r : goal.decreases-loop-r
-decreases-loop-r l = length l.names - l.r
+abbrev pub invariant-loop-position : goal.invariant-loop-position
+invariant-loop-position l = Costing l.question.index.bytes.now l.question.names.now l.slots l.left (l.position-index + 1) l.looks l.codes l.looks16 l.codes16

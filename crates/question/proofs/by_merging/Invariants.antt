@@ -1,11 +1,6 @@
-use Prim.Native.Nat.{◌-◌}
-use mathlib.Core.Path.{◌≡◌}
-use lib.ListN.{length}
+use Prim.Native.Nat.{◌+◌}
 use Rattle.question.proofs.Asking.{Left}
 use Rattle.question.proofs.by_merging.Given as goal
 
-abbrev pub invariant-loop-r : goal.invariant-loop-r
-invariant-loop-r l = (length l.slots ≡ length l.initial.slots) × Left l.index l.names l.slots l.left l.r
-
-abbrev pub decreases-loop-r : goal.decreases-loop-r
-decreases-loop-r l = length l.names - l.r
+abbrev pub invariant-loop-position : goal.invariant-loop-position
+invariant-loop-position l = Left l.question.index.bytes.now l.question.names.now l.slots l.left (l.position-index + 1)

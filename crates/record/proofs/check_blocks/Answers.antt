@@ -1,28 +1,27 @@
-use borrow.Author.Rules.{rules}
-use Rattle.record.proofs.Turns.{turns, turn, weaker}
+use native.Mathlib.Nat.{le_of_lt}
+use Rattle.laws.proofs.Faults.{fault_on}
+use Rattle.record.proofs.Turns.{turns, bad_block, turn}
+use Rattle.record.proofs.check_blocks.Goals.{then-end-start-via-then-end-start, then-end-start-via-else-end-start+then-len-end, then-first-prev-via-then-first-prev, then-first-prev-via-else-first-prev+then-u-first}
 use Rattle.record.proofs.check_blocks.Goals as goal
 
 pub returns-then-end-start : goal.returns-then-end-start
-returns-then-end-start c = search turns
-
-pub returns-then-len-end : goal.returns-then-len-end
-returns-then-len-end c = search turns
+returns-then-end-start c =
+    elim c.then-end-start.branch [
+      | then-end-start-via-then-end-start w ↦ search turns
+      | then-end-start-via-else-end-start+then-len-end w ↦ search turns
+    ]
 
 pub returns-then-first-prev : goal.returns-then-first-prev
-returns-then-first-prev c = search turns
+returns-then-first-prev c =
+    elim c.then-first-prev.branch [
+      | then-first-prev-via-then-first-prev w ↦ search turns
+      | then-first-prev-via-else-first-prev+then-u-first w ↦ search turns
+    ]
 
-pub returns-then-u-first : goal.returns-then-u-first
-returns-then-u-first c = search turns
+pub returns-in_err-prev : goal.returns-in_err-prev
+returns-in_err-prev c =
+    let bad = bad_block c.loop-nth.invariant in
+    rw (fault_on c.from_residual.result _ c.from_residual.ensures.1) (search (bad, c.in_err-prev.ensures, le_of_lt))
 
-pub overflow_sub-size : goal.overflow_sub-size
-overflow_sub-size c = search (turns, rules)
-
-pub returns-then-got-ne0 : goal.returns-then-got-ne0
-returns-then-got-ne0 c = search turns
-
-pub loop-blocks-preserved : goal.loop-blocks-preserved
-loop-blocks-preserved c = let t = turn c.loop-blocks.invariant in
-    search (t, weaker)
-
-pub returns : goal.returns
-returns c = search turns
+pub loop-nth-preserved : goal.loop-nth-preserved
+loop-nth-preserved c = let next = turn c.loop-nth.invariant in search (next, c.in_ok-prev.ensures, le_of_lt)

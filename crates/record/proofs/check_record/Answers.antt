@@ -1,14 +1,14 @@
 use Rattle.record.proofs.Spans.{bits_reach, heads}
+use Rattle.record.proofs.check_record.Goals.{then-u-cut-via-then-u-cut, then-u-cut-via-else-u-cut+then-u-cut-2, then-u-cut-via-else-u-cut+else-u-cut-2+then-stray}
 use Rattle.record.proofs.check_record.Goals as goal
 
 pub returns-then-u-cut : goal.returns-then-u-cut
-returns-then-u-cut c = search heads
-
-pub returns-then-u-cut-2 : goal.returns-then-u-cut-2
-returns-then-u-cut-2 c = search heads
-
-pub returns-then-stray : goal.returns-then-stray
-returns-then-stray c = search heads
+returns-then-u-cut c =
+    elim c.then-u-cut.branch [
+      | then-u-cut-via-then-u-cut w ↦ search heads
+      | then-u-cut-via-else-u-cut+then-u-cut-2 w ↦ search heads
+      | then-u-cut-via-else-u-cut+else-u-cut-2+then-stray w ↦ search heads
+    ]
 
 pub returns-then-to-len : goal.returns-then-to-len
 returns-then-to-len c = search heads

@@ -1,13 +1,9 @@
-use Prim.Native.Nat.{◌-◌}
-use lib.ListN.{length}
-use Rattle.paper.specs.Block.{read_codes}
 use Rattle.paper.specs.Walk.{seek}
-use Rattle.codes.specs.InBlock.{stopped}
+use Rattle.codes.specs.InBlock.{stopped, read_block}
 use Rattle.seeks.proofs.Hops.{Ahead}
 use Rattle.seeks.proofs.ahead.Given as goal
 
-abbrev pub invariant-loop-codes : goal.invariant-loop-codes
-invariant-loop-codes l = Ahead l.x l.u l.s l.count (stopped 0 (seek l.x l.first (read_codes l.u l.count l.first l.s).slots)) l.codes l.slot
-
-abbrev pub decreases-loop-codes : goal.decreases-loop-codes
-decreases-loop-codes l = length l.s - l.codes
+abbrev pub invariant-loop-hop : goal.invariant-loop-hop
+invariant-loop-hop l =
+    let b = l.block in
+    Ahead l.x b.u b.codes.now b.count (stopped 0 (seek l.x b.first (read_block b).slots)) l.hop l.here.codes l.here.slot

@@ -1,25 +1,19 @@
 use native.Mathlib.Omega.{arith}
 use borrow.Author.Rules.{rules}
-use Rattle.seeks.proofs.Hops.{along_begin, along_turn, next_fits}
+use Rattle.seeks.proofs.Hops.{along_turn, next_fits, nth_byte}
 use Rattle.seeks.proofs.in_eight.Goals as goal
 
-pub loop-i-init : goal.loop-i-init
-loop-i-init c = let a = c.args in
-    along_begin a.x a.u a.s.now a.count a.at a.y (search rules) (search rules) (search rules) (search rules)
-
-pub onward-slot-requires : goal.onward-slot-requires
-onward-slot-requires c = let a = c.args in
-    let l = c.loop-i in
-    λ g. let f = next_fits a.x a.u a.s.now a.count a.at a.y (search rules) (search rules) l.i l.codes l.slot l.invariant (search rules) c.byte-b.result (search rules) g in
+pub onward-requires : goal.onward-requires
+onward-requires c =
+    let b = c.args.block in
+    let h = c.loop-b.here in
+    let e = nth_byte b.codes.now c.args.from.codes _ c.loop-b.b-index c.from.result c.from.ensures (search rules) in
+    λ g. let f = next_fits c.args.x b.u b.codes.now b.count c.args.from.codes c.args.from.slot (search rules) (search rules) c.loop-b.b-index h.codes h.slot c.loop-b.invariant (search rules) c.from.result e g in
     omega (arith, f)
 
-pub overflow_add-codes : goal.overflow_add-codes
-overflow_add-codes c = let f = c.loop-i.invariant.far in search rules
-
-pub loop-i-preserved : goal.loop-i-preserved
-loop-i-preserved c = let a = c.args in
-    let l = c.loop-i in
-    along_turn a.x a.u a.s.now a.count a.at a.y (search rules) (search rules) l.i l.codes l.slot l.invariant (search rules) c.byte-b.result (search rules) _ _ c.one-more.ensures.0 c.onward-slot.ensures
-
-pub returns : goal.returns
-returns c = c.loop-i.invariant.head
+pub loop-b-preserved : goal.loop-b-preserved
+loop-b-preserved c =
+    let b = c.args.block in
+    let h = c.loop-b.here in
+    let e = nth_byte b.codes.now c.args.from.codes _ c.loop-b.b-index c.from.result c.from.ensures (search rules) in
+    along_turn c.args.x b.u b.codes.now b.count c.args.from.codes c.args.from.slot (search rules) (search rules) c.loop-b.b-index h.codes h.slot c.loop-b.invariant (search rules) c.from.result e _ _ (search rules) c.onward.ensures

@@ -1,10 +1,7 @@
-use Prim.Native.Nat.{◌-◌, ◌≤◌}
-use Rattle.paper.specs.Held.{listed}
+use Prim.Native.Nat.{◌≤◌}
+use Rattle.record.specs.Holds.{list_of}
 use Rattle.skips.proofs.Walking.{Head}
 use Rattle.skips.proofs.walk.Given as goal
 
-abbrev pub invariant-loop-i : goal.invariant-loop-i
-invariant-loop-i l = (l.finger ≤ l.p.m) × Head (listed l.p.u l.p.block l.rec) l.initial.slots l.count l.slots l.kept l.i l.finger l.looks l.codes
-
-abbrev pub decreases-loop-i : goal.decreases-loop-i
-decreases-loop-i l = l.count - l.i
+abbrev pub invariant-loop-at : goal.invariant-loop-at
+invariant-loop-at l = (l.finger ≤ l.list.parts.m) × Head (list_of l.list) l.initial.slots l.slots l.kept l.at l.finger l.looks l.codes

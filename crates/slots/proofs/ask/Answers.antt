@@ -1,24 +1,24 @@
-use Rattle.slots.proofs.Asking.{question_refused, asked, no_room, room_enough, answered_1, answered_0}
-use borrow.Author.Rules.{rules}
+use mathlib.Core.Path.{refl}
+use Rattle.slots.proofs.Asking.{question_refused, no_room, answered}
 use Rattle.slots.proofs.ask.Goals as goal
 
-pub returns-then-fault-ne0 : goal.returns-then-fault-ne0
-returns-then-fault-ne0 c = search question_refused
-
-pub rank-need-requires : goal.rank-need-requires
-rank-need-requires c = (search asked, search rules)
+pub returns-in-Err : goal.returns-in-Err
+returns-in-Err c = search (question_refused, c.in-Err.ensures.told)
 
 pub returns-then-slots-need : goal.returns-then-slots-need
-returns-then-slots-need c = search no_room
+returns-then-slots-need c =
+    let p = c.in-Ok.ensures in
+    let q = c.rank-question in
+    no_room _ _ _ _ p.told _ refl _ _ q.ensures.0 q.ensures.1 _ q.result.least c.if-slots-need.true _ c.refused-then-slots-need.ensures
 
-pub answer_by_skips-requires : goal.answer_by_skips-requires
-answer_by_skips-requires c = record { asked = search asked; ordered = search rules; room = search room_enough }
+pub returns-in-BySkips : goal.returns-in-BySkips
+returns-in-BySkips c =
+    let p = c.in-Ok.ensures in
+    let q = c.rank-question in
+    answered _ _ _ _ p.told _ refl _ _ q.ensures.0 q.ensures.1 _ q.result.least c.if-slots-need.false 1 (rw c.in-BySkips.is at p.known) _ _ c.answer_by_skips.ensures
 
-pub returns-then-way-eq1 : goal.returns-then-way-eq1
-returns-then-way-eq1 c = search answered_1
-
-pub answer_plainly-requires : goal.answer_plainly-requires
-answer_plainly-requires c = record { asked = search asked; ordered = search rules; room = search room_enough }
-
-pub returns : goal.returns
-returns c = search answered_0
+pub returns-in-Plainly : goal.returns-in-Plainly
+returns-in-Plainly c =
+    let p = c.in-Ok.ensures in
+    let q = c.rank-question in
+    answered _ _ _ _ p.told _ refl _ _ q.ensures.0 q.ensures.1 _ q.result.least c.if-slots-need.false 0 (rw c.in-Plainly.is at p.known) _ _ c.answer_plainly.ensures

@@ -1,8 +1,0 @@
-use native.Mathlib.Omega.{arith}
-use Rattle.words.proofs.byte.Goals as goal
-
-pub overflow_cast-result : goal.overflow_cast-result
-overflow_cast-result c = omega (arith, c.type_inv.s c.args.i)
-
-pub returns : goal.returns
-returns c = omega (arith, c.type_inv.s c.args.i)
