@@ -33,7 +33,7 @@ fn up_to(u: u32, last: u64) -> Option<u32>
 }
 
 // Codes of one byte each, by a glance: the last slot, where they are that and no slot is above u.
-// Kept: the four parameters that make up a block, one by one. Tried: a struct of them, with the glances as its methods. The goal `returns` of `by_ones` did not
+// Kept: the four parameters that make up a block, one by one, here, in the functions behind and in `codes::check_codes`. Tried: a struct of them, with the glances as its methods. The goal `returns` of `by_ones` did not
 // close: of a slice that stands in a struct no fact says that its bytes are below 256.
 fn by_ones(s: &[u8], count: u32, first: u32, u: u32) -> Option<u32>
     requires { (9 ≤ length s.now) × (length s.now ≤ 254) × (length s.now ≡ count) }
@@ -48,6 +48,7 @@ fn by_ones(s: &[u8], count: u32, first: u32, u: u32) -> Option<u32>
 }
 
 // Codes of one and two bytes, by a glance: the last slot, where they are that and no slot is above u.
+// Kept: the bounds of the length, here, in `by_ones` and in `glance`. A slice of its own type for 9 to 254 bytes would be made for one call of each.
 fn by_pairs(s: &[u8], count: u32, first: u32, u: u32) -> Option<u32>
     requires { (9 ≤ length s.now) × (length s.now ≤ 254) }
     ensures { Accepts result first (read_codes u count first s.now) }

@@ -38,6 +38,8 @@ impl<'a> Starts for Given<'a> {
 }
 
 // The size of the finished index, in 64 bits, where no sum wraps.
+// Kept: that there are 4,096 starts at most is asked for here and in two functions behind, and `total` goes with `starts` in the public ones. `closed_size` and `put_frame` take them as
+// `slots::close` is given them; between the tests they are one, `Given`.
 pub fn closed_size(total: u32, starts: &[u32]) -> usize
     requires { length starts.now ≤ 4096 }
     ensures { result ≡ finished total (length starts.now) }

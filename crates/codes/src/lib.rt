@@ -3,7 +3,6 @@
 
 ghost use Rattle.std.specs.Prelude.{◌≡◌, ◌+◌, ◌≤◌, ◌<◌, length, drop};
 ghost use Rattle.std.proofs.lemmas.List.Edits.{sets};
-ghost use Rattle.paper.specs.Bytes.{byte_at};
 ghost use Rattle.paper.specs.Lists.{some_slot};
 ghost use Rattle.paper.specs.Code.{code_of, code_bytes};
 ghost use Rattle.paper.specs.Code.Code.{code};
@@ -102,6 +101,7 @@ impl From<Misread> for Fault {
 
 // Checks that `s` is `count` codes behind the slot `first`, and nothing more: the last slot. The gap is held against what is left up to u, so that no sum
 // can leave the range.
+// Kept: what makes up a block, one by one, as in `checks`: nothing is known of the bytes yet.
 #[tactic(auto, using(crate::proofs::Turns::steps))]
 pub fn check_codes(s: &[u8], count: u32, first: u32, u: u32) -> Result<u32, Misread>
     requires { first ≤ u }

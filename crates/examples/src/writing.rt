@@ -1,4 +1,5 @@
 // Records written from slots and a cut.
+use sheet::make::front;
 use sheet::show::{bytes, end};
 use slots::write;
 use std::io;
@@ -15,7 +16,7 @@ fn write_in(
 ) -> io::Result<()> {
     let made = write(u, block, cut, slots, room);
     print!(rt; "{text}: {} {} {}", made.number, made.place, made.length)?;
-    bytes(rt, room, made.length as usize)?;
+    bytes(rt, front(room, made.length as usize))?;
     end(rt)
 }
 

@@ -5,7 +5,6 @@
 ghost use Rattle.std.specs.Prelude.{◌≡◌, ◌+◌, ◌*◌, ◌-◌, ◌≤◌, ◌<◌, length, take, replicate};
 ghost use mathlib.Core.List.{◌++◌, flatten};
 ghost use Rattle.paper.specs.Lists.{keep, up_from};
-ghost use Rattle.paper.specs.Bytes.{byte_at};
 ghost use Rattle.paper.specs.Block.{read_codes};
 ghost use Rattle.codes.specs.InBlock.{read_block};
 ghost use Rattle.paper.specs.Record.{bit_at, slots_to_cut, tail_of};
@@ -19,6 +18,7 @@ use record::Held;
 use words::{bit, one};
 
 // The bits of the eight bytes from `at` on as one number, the first of them its highest digit.
+// Kept: beside `words::u64_at`, which has the lowest byte first. Its bytes turned round would be this order said twice.
 fn word(bits: &[u8], at: usize) -> u64
     requires { at + 8 ≤ length bits.now }
     ensures { Shown bits.now (8 * at + 64) 64 result }
@@ -40,6 +40,7 @@ const HIGH: u64 = 9223372036854775808;
 
 // Puts the slots of the set bits in the eight bytes from `at` on behind the `from` slots that stand there: the highest digit that is set tells the next one, and is then
 // taken away. They are known to fit.
+// Kept: how many slots stand there goes beside the slice, here and in the functions behind, as the place to go on from: the part in front of it is what the promise speaks of.
 fn put_word(bits: &[u8], at: usize, slots: &mut [u32], from: usize) -> usize
     requires { (at + 8 ≤ length bits.now) × (8 * at + 64 ≤ 1048576) × (from + length (keep (bit_at bits.now) (up_from (8 * at + 1) 64)) ≤ length slots.old) }
     ensures { Front (take from slots.old ++ keep (bit_at bits.now) (up_from (8 * at + 1) 64)) result slots.new }
@@ -47,7 +48,7 @@ fn put_word(bits: &[u8], at: usize, slots: &mut [u32], from: usize) -> usize
     let first = 8 * at as u32 + 1;
     let mut v = word(bits, at);
     let mut w = from;
-    // Kept: no index is counted: a turn takes a digit away, and there are as many turns as digits that are set.
+    // Kept: a `for` is no plainer: there are as many turns as digits that are set, and each takes the highest of them away.
     while 0 < v {
         let zeros = u64::leading_zeros(v);
         slots[w] = first + zeros;

@@ -113,7 +113,7 @@ pub fn totals(s: &[u8]) -> Glance
         on: first / 128,
     };
     let mut i: usize = 1;
-    // Kept: tried as a `for` over the turns. Blocks of codes of one byte then take up to a twentieth longer to be checked.
+    // Kept: tried as a `for` over the turns. Short blocks then take up to a twentieth longer to be checked.
     while i + 8 < s.len() {
         sums = sums.and(u64_at(s, i), u64_at(s, i - 1));
         i += 8;

@@ -1,15 +1,15 @@
 -- Reading the numbers of a text, step by step: one law for each byte that can stand there, and for the end.
 use Prim.Native.Nat.{ℕ, ◌+◌, ◌-◌, ◌*◌, ◌≤◌, ◌<◌}
-use mathlib.Core.Path.{◌≡◌, refl, sym, ◌∙◌}
+use mathlib.Core.Path.{◌≡◌, refl, sym, ap, ◌∙◌}
 use mathlib.Core.Bool.{Bool, true, false, true≢false}
 use mathlib.Core.Option.{Option, none, some}
 use mathlib.Core.List.{List, []}
 use native.Mathlib.Decide.{dec_lt}
 use native.Mathlib.Omega.{arith}
 use lib.ListN.{length, drop}
-use borrow.Author.Tests.{lt-ltb, le-ltb, le-leb, lt-leb}
+use borrow.Author.Tests.{lt-ltb, le-ltb}
 use Rattle.paper.specs.Bytes.{byte_at}
-use Rattle.paper.specs.Line.{is_parting, also, read_numbers}
+use Rattle.paper.specs.Line.{is_parting, is_digit, also, read_numbers}
 use Rattle.laws.proofs.Parts.{front, nothing}
 use Rattle.line.specs.OneNumber.{Begins}
 
@@ -45,26 +45,21 @@ module _ (text : List ℕ) (i : ℕ) where
       unfolding read_numbers
       begin_number = rw (front text i b h is, p)
 
-      -- a byte below the digits
-      pub below_digits : b < 0x30 → (v : ℕ) → none ≡ from true v
+      -- a byte that is no digit
+      pub no_digit : is_digit b ≡ false → (v : ℕ) → none ≡ from true v
       unfolding read_numbers
-      below_digits l v = rw (front text i b h is, p, lt-leb 0x30 b l)
+      no_digit d v = rw (front text i b h is, p, d)
 
-      -- a byte above them
-      pub above_digits : 0x30 ≤ b → 0x39 < b → (v : ℕ) → none ≡ from true v
-      unfolding read_numbers
-      above_digits lo l v = rw (front text i b h is, p, le-leb 0x30 b lo, lt-leb b 0x39 l)
-
-      module _ (lo : 0x30 ≤ b) (hi : b ≤ 0x39) (v : ℕ) where
+      module _ (d : is_digit b ≡ true) (v : ℕ) where
         -- a digit, and the number gets too large
         pub too_large : 4294967295 < 10 * v + (b - 0x30) → none ≡ from true v
         unfolding read_numbers
-        too_large l = rw (front text i b h is, p, le-leb 0x30 b lo, le-leb b 0x39 hi, le-ltb (10 * v + (b - 0x30)) 4294967296 (omega arith))
+        too_large l = rw (front text i b h is, p, d, le-ltb (10 * v + (b - 0x30)) 4294967296 (omega arith))
 
         -- a digit
         pub one_digit : 10 * v + (b - 0x30) ≤ 4294967295 → read_numbers (drop (i + 1) text) true (10 * v + (b - 0x30)) ≡ from true v
         unfolding read_numbers
-        one_digit l = rw (front text i b h is, p, le-leb 0x30 b lo, le-leb b 0x39 hi, lt-ltb (10 * v + (b - 0x30)) 4294967296 (omega arith))
+        one_digit l = rw (front text i b h is, p, d, lt-ltb (10 * v + (b - 0x30)) 4294967296 (omega arith))
 
 -- SKIPPING: i lies at `at` or behind it, with nothing but parting bytes between them
 pub record Skipped (text : List ℕ) (at i : ℕ) : Type 0 where
@@ -149,30 +144,28 @@ module _ (text : List ℕ) (at i v : ℕ) (s : Inside text at i v) where
       no_part : is_parting b ≡ false
       no_part = sym test ∙ p
 
-      -- a byte that is no digit
-      pub number_below : b < 0x30 → none ≡ read_numbers (drop at text) false 0
-      number_below l = below_digits text i h b is no_part l v ∙ s.same
+      module _ (d : Bool) (isD : d ≡ is_digit b) where
+        -- a byte that is no digit
+        pub number_ends : d ≡ false → none ≡ read_numbers (drop at text) false 0
+        number_ends f = no_digit text i h b is no_part (sym isD ∙ f) v ∙ s.same
 
-      pub number_above : 0x30 ≤ b → 0x39 < b → none ≡ read_numbers (drop at text) false 0
-      number_above lo l = above_digits text i h b is no_part lo l v ∙ s.same
-
-      module _ (lo : 0x30 ≤ b) (hi : b ≤ 0x39) where
         -- a digit too many
-        pub number_large : 4294967295 < 10 * v + (b - 0x30) → none ≡ read_numbers (drop at text) false 0
-        number_large l = too_large text i h b is no_part lo hi v l ∙ s.same
+        pub number_large : d ≡ true → 4294967295 < 10 * v + (b - 0x30) → none ≡ read_numbers (drop at text) false 0
+        number_large f l = too_large text i h b is no_part (sym isD ∙ f) v l ∙ s.same
 
         -- one more digit
-        pub number_more : 10 * v + (b - 0x30) ≤ 4294967295 → Inside text at (i + 1) (10 * v + (b - 0x30))
-        number_more l =
+        pub number_more : d ≡ true → (w : ℕ) → w ≡ 10 * v + (b - 0x30) → w ≤ 4294967295 → Inside text at (i + 1) w
+        number_more f w e l =
             let on = s.behind in
+            let k : 10 * v + (b - 0x30) ≤ 4294967295 = omega arith in
             record {
               begins = s.begins;
               first = s.first;
               behind = omega arith;
               near = omega arith;
               low = l;
-              same = one_digit text i h b is no_part lo hi v l ∙ s.same;
+              same = ap (λ (n : ℕ). read_numbers (drop (i + 1) text) true n) e ∙ one_digit text i h b is no_part (sym isD ∙ f) v k ∙ s.same;
             }
 
 -- all of these
-pub ruleset numbers = (number_begin, number_end, number_end_beyond, number_within, number_parted, number_parted_beyond, number_below, number_above, number_large, number_more)
+pub ruleset numbers = (number_begin, number_end, number_end_beyond, number_within, number_parted, number_parted_beyond, number_ends, number_large, number_more)

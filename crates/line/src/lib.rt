@@ -1,9 +1,9 @@
 // The text of a question: its numbers, one after the other, the way first and then the names.
 #![tactic(auto)]
 
-ghost use Rattle.std.specs.Prelude.{◌≡◌, false, ◌+◌, ◌≤◌, ◌<◌, length, drop};
+ghost use Rattle.std.specs.Prelude.{◌≡◌, false, ◌+◌, ◌-◌, ◌*◌, ◌≤◌, ◌<◌, length, drop, MatchOption};
 ghost use Rattle.paper.specs.Bytes.{byte_at};
-ghost use Rattle.paper.specs.Line.{is_parting, read_numbers};
+ghost use Rattle.paper.specs.Line.{is_parting, is_digit, read_numbers};
 ghost use Rattle.line.specs.Numbers.{MeetsLine, zeros};
 ghost use Rattle.line.specs.OneNumber.{Begins, as_numbers, Beyond};
 
@@ -17,6 +17,21 @@ fn is_parting(b: u32) -> bool
     ensures { result ≡ is_parting b }
 {
     b == 0x20 || b == 0x0a
+}
+
+// A byte that is a digit.
+fn is_digit(b: u32) -> bool
+    ensures { result ≡ is_digit b }
+{
+    0x30 <= b && b <= 0x39
+}
+
+// A number with one digit more, where a u32 holds it.
+fn with_digit(value: u32, b: u32) -> Option<u32>
+    requires { 0x30 ≤ b }
+    ensures { MatchOption result (4294967295 < 10 * value + (b - 0x30)) (λ n. (n ≡ 10 * value + (b - 0x30)) × (n ≤ 4294967295)) }
+{
+    value.checked_mul(10)?.checked_add(b - 0x30)
 }
 
 // Goes on over parting bytes, to the next byte that is none or to the end.
@@ -48,10 +63,10 @@ fn read_number(text: &[u8], at: usize) -> Option<(u32, usize)>
         if is_parting(b) {
             return Some((value, i + 1));
         }
-        if b < 0x30 || 0x39 < b {
+        if !is_digit(b) {
             return None;
         }
-        value = value.checked_mul(10)?.checked_add(b - 0x30)?;
+        value = with_digit(value, b)?;
     }
     Some((value, text.len() + 1))
 }
@@ -78,7 +93,7 @@ pub fn read_line(text: &[u8]) -> Numbers
     let mut values = [0u32; 128];
     let mut many: usize = 0;
     let mut at = skip(text, 0);
-    // Kept: a turn goes on by a whole number, to where `skip` says that the next one begins.
+    // Kept: a `for` is no plainer, since a turn goes on by a whole number, to where `skip` says that the next one begins.
     while at < text.len() {
         let Some((value, next)) = read_number(text, at) else {
             return no_numbers();

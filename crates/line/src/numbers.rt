@@ -2,7 +2,7 @@
 ghost use Rattle.std.specs.Prelude.{◌≡◌, ◌≤◌, length, take};
 
 // `many` numbers at the front, and 0 at every place behind. A text that is no question has none.
-// Kept: an array with a count beside it, since the project uses no heap.
+// Kept: an array with a count beside it, since the project uses no heap; and none for a text that is no question, as `MeetsLine` has it.
 #[derive(Drop)]
 pub struct Numbers {
     pub many: usize,

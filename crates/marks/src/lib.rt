@@ -2,7 +2,7 @@
 // reports nothing, reads every code at most twice, and no block whose slots are all below the first candidate left.
 #![tactic(auto)]
 
-ghost use Rattle.std.specs.Prelude.{◌≡◌, ◌∷◌, ◌+◌, ◌*◌, ◌≤◌, ◌<◌, IsTrue, length, take};
+ghost use Rattle.std.specs.Prelude.{◌≡◌, ◌+◌, ◌*◌, ◌≤◌, ◌<◌, IsTrue, length};
 ghost use Rattle.paper.specs.Lists.{has, keep};
 ghost use Rattle.paper.specs.Bytes.{part};
 ghost use Rattle.meaning.proofs.Rising.{Ascends};
@@ -10,7 +10,6 @@ ghost use Rattle.codes.specs.InBlock.{read_block};
 ghost use Rattle.record.specs.Opened.{block_slots};
 ghost use Rattle.record.specs.Holds.{slots_of};
 ghost use Rattle.record.specs.Front.{Front, Candidates};
-ghost use Rattle.plain.specs.Sifted.{up_to, behind, Told};
 ghost use Rattle.marks.specs.Waiting.{comes_to, AtBlock, Below};
 ghost use Rattle.marks.specs.Marks.{marked, marking, NoMarks, Clear, Piece};
 
@@ -106,6 +105,7 @@ fn merge_block(
     let n = slots.len();
     let mut told = from;
     let mut block = list.block(nth);
+    // Kept: a `for` is no plainer: how many pieces a block has is known only when it is read.
     'pieces: loop {
         let read = mark_on(block, marks);
         told = tell(read.first, slots, told, |x| is_marked(marks, x));

@@ -23,6 +23,8 @@ use record::count_record;
 use skips::{Walked, walk};
 
 // The slots of one name's list, gathered.
+// Kept: that the name is one of the index is asked for here, in the functions behind and in `Index`. A name is a number that callers give, and a type for those of one index would have to
+// hold the index once more. So stand the four functions of one name side by side, each with the promise of the way that it goes; they are public.
 pub fn gather_name(index: Index<'_>, name: u32, slots: &mut [u32]) -> usize
     requires { (name < k_of index.bytes.now) × (count_of (record_of index.bytes.now name) ≤ length slots.old) }
     ensures { Front (slots_named index.entry.bytes.now name) result slots.new }

@@ -86,6 +86,7 @@ pub fn check_write(u: u32, block: u32, cut: u32, slots: &[u32]) -> Result<(), Re
 }
 
 // How many slots lie up to the cut. They stand at the front, since all slots rise.
+// Kept: that slots rise is asked for of each part of them, from another slot on, so no one value has it; block, cut and slots come from `slots::write` one by one, as C hands them on.
 fn slots_to(slots: &[u32], cut: u32) -> usize
     requires { Ascends 1048576 0 slots.now }
     ensures { result ≡ length (up_to cut slots.now) }

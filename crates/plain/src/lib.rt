@@ -25,6 +25,8 @@ pub struct Merged {
 
 // Candidates up to y, from those on that are still to be told: the ones that pass a test are kept. Each is stored in any case, and the place behind the kept ones moves on
 // where it passes: no branch on what is found.
+// Kept: that the place to go on from lies in the slots is asked for here, in `merge_block`, in `merge_blocks` and in `marks`. A struct of slice and place would have to be taken apart
+// at each store.
 pub fn tell<F: Fn(u32) -> bool>(y: u32, slots: &mut [u32], from: Merged, test: F) -> Merged
     requires within { from.next ≤ length slots.old }
     requires asked { (k : ℕ) → from.next ≤ k → k < length slots.old → slice_index slots.old k ≤ y → F.pre test (slice_index slots.old k) }

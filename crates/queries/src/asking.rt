@@ -36,6 +36,7 @@ pub fn ask_64(
 }
 
 // The line of what each name of a question costs: all places of looks, then all of codes.
+// Kept: beside `ask_in`. What they have in common is the call; the rest is what is printed.
 fn costs_in(
     rt: &impl Print,
     text: &str,

@@ -44,6 +44,8 @@ pub fn check_names(index: Index<'_>, way: u32, names: &[u32]) -> Result<Way, Ref
 }
 
 // Gathers the candidates: the slots of the smallest list named.
+// Kept: that the slots have room for the smallest list is asked for here and in the three functions behind. The slice is the caller's, and `ask` has just held it against
+// the room: a struct of both would be made for that one call, to say the same.
 #[tactic(auto, using(crate::proofs::Asking::firsts))]
 fn start(question: &Ranked<'_>, slots: &mut [u32]) -> usize
     requires { question.now.room ≤ length slots.old }

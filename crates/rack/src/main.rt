@@ -21,7 +21,7 @@ fn room<T: Copy, const N: usize>(empty: T) -> [T; N]
 
 // Reads to the end, piece by piece, and tells how many bytes came. It stops where the room is full. A read that fails is told as a full room,
 // since rooms have one byte more than is allowed: both come to the same answer.
-// Kept: `read_to_end` wants a vector, and the project uses no heap.
+// Kept: `read_to_end` wants a vector, and the project uses no heap; and a failed read is a full room, since the program answers both alike.
 fn read_all(from: &mut impl Read, room: &mut [u8]) -> usize
     ensures { result ≤ length room.new }
 {

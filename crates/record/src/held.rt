@@ -67,6 +67,7 @@ impl<'a> Held<'a> {
     }
 
     // Block `nth`, counted from 0. Its codes are a part of the record itself.
+    // Kept: which block is asked for as a number with a bound, here and in `marks`. The numbers come out of ranges over m, and a type for them would say no more.
     #[tactic(auto, using(crate::proofs::Opening::blocks_stand))]
     pub fn block(&self, nth: usize) -> Block<'a>
         requires { nth < self.now.parts.m }

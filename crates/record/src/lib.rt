@@ -74,7 +74,8 @@ fn check_blocks(
 }
 
 // The first fault of a tail: that of its first offset, then those of its blocks.
-// Kept: the numbers of the head one by one, here and in `check_blocks`. A struct of them would be made in one place and taken apart in these two.
+// Kept: the numbers of the head one by one, here and in `check_blocks`, with m beside the entries. `Parts` has five of them, and where they lie, but stands for a record that has no
+// fault; another struct would be made in one place and taken apart in these two.
 #[tactic(auto, using(crate::proofs::Spans::tails))]
 fn check_tail(
     entries: &[u8],

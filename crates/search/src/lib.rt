@@ -120,6 +120,8 @@ pub struct Step<T> {
 
 // Above the cut: the search gives j, and block j tells, or where it runs out the block behind it; j = 0 is before the first block. The finger
 // stays at j, whichever block tells.
+// Kept: that the finger is not past m, and that x is no 0, is asked for here and in the functions behind. Finger and slot change at every step, and a struct of them and the
+// list would be made anew each time.
 #[tactic(auto, using(crate::proofs::Trials::j_within))]
 fn seek_slot(list: &Held<'_>, finger: usize, x: u32) -> Step<Option<u32>>
     requires { (finger ≤ list.now.parts.m) × (list.now.parts.cut < x) }

@@ -16,12 +16,12 @@ pub fn values<T: Display>(rt: &impl Print, all: &[T]) -> io::Result<()> {
     Ok(())
 }
 
-// The first `length` bytes as one word, two digits each, and no word where there are none.
-pub fn bytes(rt: &impl Print, all: &[u8], length: usize) -> io::Result<()> {
-    if 0 < length {
+// Bytes as one word, two digits each, and no word where there are none.
+pub fn bytes(rt: &impl Print, all: &[u8]) -> io::Result<()> {
+    if !all.is_empty() {
         print!(rt; " ")?;
     }
-    for b in all.iter().take(length) {
+    for b in all {
         print!(rt; "{b:02x}")?;
     }
     Ok(())

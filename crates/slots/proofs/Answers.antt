@@ -106,10 +106,6 @@ module _ (bs : List ℕ) (name : ℕ) (is : accepted ≡ name_fault bs name) whe
 
   -- cs is the index that looking has accepted
   module _ (cs : List ℕ) (same : cs ≡ bs) where
-    -- the name is one of its lists too
-    pub name_within : name < k_of cs
-    name_within = rw same name_known
-
     module _ (r : List ℕ) (isR : r ≡ record_of cs name) where
       -- its record is lent
       pub record_lent : r ≡ lent bs name

@@ -1,6 +1,7 @@
 // The library: every operation answers for any bytes and any numbers, and its promise says all of its answer.
 // Kept: the answers of the public functions have a number and a place, 0 where nothing is refused, and `next` tells 0 for no slot. Their promises speak
-// of these structs (`MeetsLook`, `MeetsNext`, `MeetsAsk` and the others), and the C interface hands them on. Inside, a refusal goes by name.
+// of these structs (`MeetsLook`, `MeetsNext`, `MeetsAsk` and the others), and the C interface hands them on. Inside, a refusal goes by name. Each operation
+// makes its own answer of a refusal: an impl of `From` for each of seven structs would stand far from it, and be used once.
 #![tactic(auto)]
 
 ghost use Rattle.std.specs.Prelude.{◌≡◌, IfOk};

@@ -93,6 +93,8 @@ pub fn put_bit(bits: &mut [u8], x: u32)
 
 // Whether a bit beyond the cut is set. Such bits are the digits below the cut's own, in its byte, and the mask has a 1 for each. The cut 0 has no
 // byte.
+// Kept: bits with their cut, here and in `ones_to`, and in `gather` and `plain`. `record::Held` has both for a record without a fault; these are asked before that is known, or of
+// any bytes.
 #[tactic(auto, using(crate::proofs::Unused::unused_bits))]
 pub fn rubbish(bits: &[u8], cut: u32) -> bool
     requires { cut ≤ 8 * length bits.now }
