@@ -7,7 +7,7 @@ use Rattle.codes.specs.InBlock.{told, checked}
 use Rattle.checks.specs.Glanced.{Accepts}
 
 -- a block that is read without a fault
-good_is : (first x : ℕ) (b : Block) → Good first x b → told (Ok x) ≡ checked first b
+pub good_is : (first x : ℕ) (b : Block) → Good first x b → told (Ok x) ≡ checked first b
 good_is first x b g = rw (g.fault, g.last)
 
 -- a last slot that is told where it is not above u

@@ -52,6 +52,7 @@ pub ruleset before_lists = (number_links, given, k_within, told_on)
 -- what these say where they pass
 pub record Given (room B D : ℕ) (starts : List ℕ) : Type 0 where
   pub some_b : 0 < B
+  pub some : 1 ≤ length starts
   pub few : length starts ≤ 4096
   pub small : finished D (length starts) ≤ 16777216
   pub fits : finished D (length starts) ≤ room
@@ -68,7 +69,7 @@ module _ (room u B D : ℕ) (starts : List ℕ) (ok : (given_fault room u B D st
       let d = within_passed 1 (one_up 0) _ 24 16777216 (finished D (length starts)) c.2 in
       let e = room_passed room (finished D (length starts)) _ d.2 in
       let f = starts_passed (start_in starts D) (length starts) accepted e.1 in
-      record { some_b = b.0; few = c.1; small = d.1; fits = e.0; first = f.0; short = f.1 }
+      record { some_b = b.0; some = c.0; few = c.1; small = d.1; fits = e.0; first = f.0; short = f.1 }
 
 -- the lists of a buffer that passes them
 module _ (bs : List ℕ) (u B D : ℕ) (starts : List ℕ) (ok : accepted ≡ given_fault (length bs) u B D starts) where
@@ -82,9 +83,17 @@ module _ (bs : List ℕ) (u B D : ℕ) (starts : List ℕ) (ok : accepted ≡ gi
       let z : start_in starts D (length starts) ≡ D = get_or-eq_default starts D {n = length starts} (omega arith) in
       laid (length bs) (start_in starts D) (length starts) s.first s.short (rw z (let g = s.fits in omega arith))
 
+  -- and so do those of xs, which are the same
+  pub same_lie : (xs : List ℕ) → xs ≡ starts → Laid (length bs) (start_in xs D) (length xs)
+  same_lie xs is = rw is records_lie
+
   -- they are few
   pub lists_few : length starts ≤ 4096
   lists_few = given_passed.few
+
+  -- there is one
+  pub lists_some : 1 ≤ length starts
+  lists_some = given_passed.some
 
   -- and a block has a slot
   pub block_some : 0 < B
@@ -114,6 +123,11 @@ module _ (bs : List ℕ) (u B D : ℕ) (starts : List ℕ) where
   unfolding close_fault given_fault room_fault
   lists_tell is v e = e ∙ sym (link_good given_then link_given _ is lists refl)
 
+  -- xs are the starts: w, which its lists tell, is what v tells
+  pub same_tell : accepted ≡ given_fault (length bs) u B D starts → (v w : Verdict) (xs : List ℕ)
+      → w ≡ lists_fault (list_fault u B) bs (start_in xs D) (length xs) 0 → xs ≡ starts → v ≡ w → v ≡ close_fault bs u B D starts
+  same_tell is v w xs e same told = lists_tell is v (told ∙ e ∙ rw same refl)
+
   module _ (ok : (close_fault bs u B D starts).number ≡ 0) where
     neither : ((given_fault (length bs) u B D starts).number ≡ 0) × (lists.number ≡ 0)
     unfolding close_fault given_fault room_fault
@@ -129,4 +143,5 @@ module _ (bs : List ℕ) (u B D : ℕ) (starts : List ℕ) where
     close_accepted = link_good given_then link_given _ refl lists neither.0 ∙ lists_accept (list_fault u B) bs (start_in starts D) (length starts) 0 neither.1
 
 -- the ways out of closing
-pub ruleset closings = (given_refuse, lists_tell, records_lie, lists_few, block_some, told_on)
+-- (lists_some: no proof needs it today; with it, what leaves the first start out fails at what it breaks)
+pub ruleset closings = (given_refuse, lists_tell, records_lie, lists_few, lists_some, block_some, told_on)

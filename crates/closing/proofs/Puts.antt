@@ -31,17 +31,16 @@ module _ {t : List ℕ} {size at : ℕ} {starts room : List ℕ} {i : ℕ} (h : 
   unfolding flatten
   putting_done l = rw (nothing starts i l) at h.same
 
-  -- the next is
-  pub putting_turn : i < length starts → (after : List ℕ) → after ≡ sets room (at + 4 * i) (u32_bytes (get_or starts i 0)) → Putting t size at starts after (i + 1)
+  -- the next is; x is what was written
+  pub putting_turn : i < length starts → (after : List ℕ) (x : ℕ) → after ≡ sets room (at + 4 * i) (u32_bytes x) → x ≡ get_or starts i 0 → Putting t size at starts after (i + 1)
   unfolding flatten
-  putting_turn l after e =
-      let x = get_or starts i 0 in
+  putting_turn l after x e is =
       let rest = flatten (map u32_bytes (drop (i + 1) starts)) in
       let both = run_more (run_first x after e) rest _ refl (at + 4 * (i + 1)) (omega arith) (sets after (at + 4 * (i + 1)) rest) refl in
       record {
         long = ap length e ∙ length-sets room (at + 4 * i) (u32_bytes x) ∙ h.long;
         few = omega arith;
-        same = both.is ∙ (rw (front starts i x l refl) at h.same);
+        same = both.is ∙ (rw (front starts i x l is) at h.same);
       }
 
 -- all of these

@@ -163,10 +163,13 @@ pub fn gather(list: &Held<'_>, slots: &mut [u32]) -> usize
     gather_blocks(list, slots, w)
 }
 
-// Puts 0 into every place from `from` on.
+// Puts 0 into every place from `from` on, one by one: in std's `fill` no place could be passed over, as the edit `every_second_place_left` does.
+#[tactic(auto, using(laws::proofs::Clearing::none_left, laws::proofs::Clearing::one_more))]
 pub fn clear(slots: &mut [u32], from: usize)
     requires { from ≤ length slots.old }
     ensures { slots.new ≡ take from slots.old ++ replicate (length slots.old - from) 0 }
 {
-    slots[from..].fill(0);
+    for i in from..slots.len() {
+        slots[i] = 0;
+    }
 }

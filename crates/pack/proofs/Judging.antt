@@ -185,3 +185,36 @@ point_is cut slots i r b p =
     most : Dec (length slots ≤ i) → length (up_to cut slots) ≤ i
     most (yes a) = omega (arith, up_to_few cut slots)
     most (no n) = few_low cut 1048576 0 i slots r (omega arith) (leb-false _ _ (p.1 i 0 (omega arith) (omega arith)))
+
+-- The slots before position i lie up to the cut, and the count is that of those behind, and i
+pub record Low (cut : ℕ) (slots : List ℕ) (i : ℕ) : Type 0 where
+  pub inside : i ≤ length slots
+  pub same : i + length (up_to cut (drop i slots)) ≡ length (up_to cut slots)
+
+-- at first
+pub low_begin : (cut : ℕ) (slots : List ℕ) → Low cut slots 0
+low_begin cut slots = record { inside = omega arith; same = omega arith }
+
+module _ {cut : ℕ} {slots : List ℕ} {i : ℕ} (h : Low cut slots i) where
+  -- all do
+  pub low_end : length slots ≤ i → i ≡ length (up_to cut slots)
+  unfolding keep
+  low_end l = let e = rw (nothing slots i l) at h.same in omega arith
+
+  module _ (l : i < length slots) (x : ℕ) (is : x ≡ get_or slots i 0) where
+    behind : i + length (up_to cut (x ∷ drop (i + 1) slots)) ≡ length (up_to cut slots)
+    behind = rw (← front slots i x l is) h.same
+
+    -- the next lies above it, and so do all behind
+    pub low_stop : Ascends 1048576 0 slots → cut < x → i ≡ length (up_to cut slots)
+    low_stop a g =
+        let b = rise_at 1048576 0 i slots a l x is in
+        let n = none_low cut 1048576 (x ∷ drop (i + 1) slots) (g, b.1, b.2) in
+        let e = rw n at behind in omega arith
+
+    -- it does too
+    pub low_turn : x ≤ cut → Low cut slots (i + 1)
+    low_turn g = let e = rw (low_yes cut x (drop (i + 1) slots) g) at behind in record { inside = omega arith; same = omega arith }
+
+-- all of these
+pub ruleset lows = (low_begin, low_end, low_stop, low_turn)

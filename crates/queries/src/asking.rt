@@ -1,22 +1,24 @@
 // Questions to the paper's index.
 use sheet::make::PAPER;
-use sheet::show::{end, values};
+use sheet::show::{end, label, values};
 use slots::ask;
+use std::convert::AsSlice;
 use std::io;
 
 // The line of a question whose answer goes to `room`.
 // Kept: the way comes as a number, here and below, so that a way can be asked for that there is not.
 pub fn ask_in(
     rt: &impl Print,
-    text: &str,
+    text: impl AsSlice<u8> + Drop,
     index: &[u8],
     way: u32,
     names: &[u32],
     room: &mut [u32],
 ) -> io::Result<()> {
     let told = ask(index, way, names, room);
+    label(rt, text)?;
     print!(rt;
-        "{text}: {} {} {} {} {}",
+        " {} {} {} {} {}",
         told.number, told.place, told.count, told.looks, told.codes
     )?;
     values(rt, room.get(..told.count as usize).unwrap_or(&[]))?;
@@ -26,7 +28,7 @@ pub fn ask_in(
 // The line of a question with room for 64 slots.
 pub fn ask_64(
     rt: &impl Print,
-    text: &str,
+    text: impl AsSlice<u8> + Drop,
     index: &[u8],
     way: u32,
     names: &[u32],
@@ -39,14 +41,15 @@ pub fn ask_64(
 // Kept: beside `ask_in`. What they have in common is the call; the rest is what is printed.
 fn costs_in(
     rt: &impl Print,
-    text: &str,
+    text: impl AsSlice<u8> + Drop,
     index: &[u8],
     way: u32,
     names: &[u32],
     room: &mut [u32],
 ) -> io::Result<()> {
     let told = ask(index, way, names, room);
-    print!(rt; "{text}: {} {}", told.number, told.place)?;
+    label(rt, text)?;
+    print!(rt; " {} {}", told.number, told.place)?;
     values(rt, &told.looks16)?;
     values(rt, &told.codes16)?;
     end(rt)
@@ -55,7 +58,7 @@ fn costs_in(
 // The same with room for 64 slots.
 pub fn costs_64(
     rt: &impl Print,
-    text: &str,
+    text: impl AsSlice<u8> + Drop,
     index: &[u8],
     way: u32,
     names: &[u32],

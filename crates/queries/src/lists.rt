@@ -1,23 +1,21 @@
 // One list of the paper's index: a slot tested, its slots counted, where its record lies. Then one list cut in many ways, and counted.
 use sheet::make;
 use sheet::make::{PAPER, close_lists, fill, front, put_list};
+use sheet::show::label;
 use slots::{count, part, test};
+use std::convert::AsSlice;
 use std::io;
 
 pub fn test_slot(
     rt: &impl Print,
-    text: &str,
+    text: impl AsSlice<u8> + Drop,
     index: &[u8],
     name: u32,
     slot: u32,
 ) -> io::Result<()> {
     let told = test(index, name, slot);
-    println!(rt;
-        "{text}: {} {} {}",
-        told.number,
-        told.place,
-        u32::from(told.yes)
-    )
+    label(rt, text)?;
+    println!(rt; " {} {} {}", told.number, told.place, u32::from(told.yes))
 }
 
 fn tests(rt: &impl Print) -> io::Result<()> {
@@ -29,9 +27,15 @@ fn tests(rt: &impl Print) -> io::Result<()> {
     test_slot(rt, "slot 1 in list 2", &p, 2, 1)
 }
 
-pub fn count_list(rt: &impl Print, text: &str, index: &[u8], name: u32) -> io::Result<()> {
+pub fn count_list(
+    rt: &impl Print,
+    text: impl AsSlice<u8> + Drop,
+    index: &[u8],
+    name: u32,
+) -> io::Result<()> {
     let told = count(index, name);
-    println!(rt; "{text}: {} {} {}", told.number, told.place, told.count)
+    label(rt, text)?;
+    println!(rt; " {} {} {}", told.number, told.place, told.count)
 }
 
 fn counts(rt: &impl Print) -> io::Result<()> {
@@ -41,10 +45,16 @@ fn counts(rt: &impl Print) -> io::Result<()> {
     count_list(rt, "count list 2", &p, 2)
 }
 
-pub fn part_of(rt: &impl Print, text: &str, index: &[u8], name: u32) -> io::Result<()> {
+pub fn part_of(
+    rt: &impl Print,
+    text: impl AsSlice<u8> + Drop,
+    index: &[u8],
+    name: u32,
+) -> io::Result<()> {
     let told = part(index, name);
+    label(rt, text)?;
     println!(rt;
-        "{text}: {} {} {} {}",
+        " {} {} {} {}",
         told.number, told.place, told.start, told.length
     )
 }

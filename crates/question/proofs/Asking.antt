@@ -29,6 +29,8 @@ use Rattle.meaning.proofs.Charging.{charge, skips_charged, plain_costs}
 use Rattle.record.specs.Front.{Front, Candidates}
 use Rattle.skips.specs.declared.Walked.{Walked}
 use Rattle.skips.specs.Walks.{Walks}
+use Rattle.plain.specs.Sifted.{plainly}
+use Rattle.plain.proofs.Meant.{plainly_keeps}
 use Rattle.names.specs.Asked.{Asked}
 use Rattle.question.specs.Answered.{Ordered, Gathered, Answers}
 
@@ -133,18 +135,22 @@ module _ (index names : List ℕ) where
     -- the position that comes r-th in the order
     module _ (r : ℕ) (l : r < length names) (at : ℕ) (is : at ≡ get_or (positions rs) r 0) where
       -- it is that of a name, and one of sixteen
-      at_below : at < length names
+      pub at_below : at < length names
       at_below = let e = as_many in rw is (let p = position_inside rs r (omega arith) in omega arith)
 
-      at_sixteen : at < 16
+      pub at_sixteen : at < 16
       at_sixteen = let b = at_below in let f = a.few in omega arith
 
       -- the name there is one of the lists
-      at_known : get_or names at 0 < k_of index
+      pub at_known : get_or names at 0 < k_of index
       at_known = a.below at at_below
 
       the_record : record_of index (get_or names at 0) ≡ get_or (in_order rs) r []
       the_record = let e = as_many in sym (named_at index names at at_below) ∙ rw is (sym (ordered_at rs r (omega arith)))
+
+    -- where the positions stand in a list of their own, it is the one that comes r-th there
+    at_is : (order : List ℕ) → Ordered index names order → (r : ℕ) → r < length names → get_or order r 0 ≡ get_or (positions rs) r 0
+    at_is order o r l = sym (get_or-take (length names) order r 0 l) ∙ ap (λ (l : List ℕ). get_or l r 0) o
 
     positions_many : length (positions rs) ≡ length names
     positions_many = order_length (map count_of rs) ∙ counts_many index names
@@ -234,6 +240,14 @@ module _ (index names : List ℕ) where
         walked : (walk_list (listed u B (record_of index name)) 0 (take n s)).kept
             ≡ keep (λ x. has x (contents u B (record_of index name))) (take n s)
         walked = walk_keeps u B _ some_b next_sound (take n s) h.rise
+
+      -- a merge of any candidates
+      module _ (order : List ℕ) (o : Ordered index names order) (l : r < length names) (name : ℕ) (is : name ≡ get_or names (get_or order r 0) 0) where
+        pub left_merged : (t : List ℕ) (m : ℕ) → Front (plainly (listed u B (record_of index name)) (take n s)) m t → Left t m (r + 1)
+        left_merged t m f =
+            let e = at_is order o r l in
+            let sound = next_sound l (get_or order r 0) e in
+            left_turn l (get_or order r 0) e t m (rw (plainly_keeps u B _ some_b sound (take n s) h.rise) at (rw is at f))
 
     -- the walks from the smallest list on
     from_first : (os : List (List ℕ)) → from_smallest u B os ≡ walks (map (listed u B) (drop 1 os)) (contents u B (get_or os 0 []))
@@ -387,12 +401,12 @@ module _ (index names : List ℕ) where
           → Front (keep (λ x. has x (contents u B (record_of index (get_or names (get_or items k 0) 0)))) (take n s)) m t → Left (t ++ drop n s) m (k + 1 + 1)
       left_next s n h t m f = left_turn s n (k + 1) h there _ item (t ++ drop n s) m (front_before _ m t (drop n s) f)
 
-      -- what a walk costs is put to its place
+      -- what a walk costs is put to its place: the looks to the place p, and the codes to q
       pub cost_next : (s : List ℕ) (n looks codes : ℕ) (looks16 codes16 : List ℕ) → Costing s n (k + 1) looks codes looks16 codes16 → (t : List ℕ) (w : Walked)
-          → Walks (walk_list (listed u B (record_of index (get_or names (get_or items k 0) 0))) 0 (take n s)) w t
-          → Costing (t ++ drop n s) w.count (k + 1 + 1) (looks + w.looks) (codes + w.codes) (set looks16 (get_or items k 0) w.looks) (set codes16 (get_or items k 0) w.codes)
-      cost_next s n looks codes looks16 codes16 h t w f =
-          cost_turn s n (k + 1) looks codes looks16 codes16 h there _ item (t ++ drop n s) w (before_others _ w t (drop n s) f)
+          → Walks (walk_list (listed u B (record_of index (get_or names (get_or items k 0) 0))) 0 (take n s)) w t → (p q : ℕ) → p ≡ get_or items k 0
+          → q ≡ get_or items k 0 → Costing (t ++ drop n s) w.count (k + 1 + 1) (looks + w.looks) (codes + w.codes) (set looks16 p w.looks) (set codes16 q w.codes)
+      cost_next s n looks codes looks16 codes16 h t w f p q isP isQ =
+          rw (isP, isQ) (cost_turn s n (k + 1) looks codes looks16 codes16 h there _ item (t ++ drop n s) w (before_others _ w t (drop n s) f))
 
     -- all are gone through
     pub none_further : (items : List ℕ) → items ≡ drop 1 (positions rs) → (k : ℕ) → length items ≤ k → length names ≤ k + 1

@@ -2,6 +2,7 @@
 use Prim.Native.Nat.{ℕ, ◌+◌, ◌*◌, ◌-◌, ◌≤◌, ◌<◌, min}
 use mathlib.Core.Path.{◌≡◌, sym, ap, ◌∙◌}
 use mathlib.Core.List.{List}
+use native.Mathlib.Nat.{le_of_lt}
 use native.Mathlib.Omega.{arith}
 use lib.ListN.{length, drop}
 use borrow.Author.Tests.{ne_eqb}
@@ -95,4 +96,8 @@ module _ {u B L t : ℕ} {es cs : List ℕ} {m i n a prev : ℕ} (h : Head u B L
                   let next = by _ (tails.turn_next u B L (m - i) n prev (8 * i) a es cs some_left first z is_f is_z l₁ l₂ l₃ l₄ (sym ok)) in
                   record { room = h.room; inside = l₂; count = rw d (sym k ∙ ceil_next B pos n (m - i) h.count some_left); same = rw (q, d, ← k, ← j) next }
 
-pub ruleset turns = (head_all, none_left, entry_there, size_some, back, beyond, low, high)
+-- weaker bounds, where the loop ends before m, or a test gives a stronger one. (No proof needs them today; with them, a shorter loop and a weaker test fail at what they break)
+pub block_left : (i r k m : ℕ) → i < r → r ≡ m - k → i < m
+block_left i r k m l e = omega arith
+
+pub ruleset turns = (head_all, none_left, entry_there, size_some, back, beyond, low, high, block_left, le_of_lt)

@@ -67,7 +67,8 @@ impl<'a> Held<'a> {
     }
 
     // Block `nth`, counted from 0. Its codes are a part of the record itself.
-    // Kept: which block is asked for as a number with a bound, here and in `marks`. The numbers come out of ranges over m, and a type for them would say no more.
+    // Kept: which block is asked for as a number with a bound, here and in `marks`. The numbers come out of ranges over m, and in `search::in_block` out of the search, which leads to no
+    // block past m; a type for them would say no more.
     #[tactic(auto, using(crate::proofs::Opening::blocks_stand))]
     pub fn block(&self, nth: usize) -> Block<'a>
         requires { nth < self.now.parts.m }

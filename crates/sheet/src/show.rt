@@ -1,11 +1,19 @@
 // A line of the output: the label and a colon, then each value behind one space. What cannot be written is the error of the call.
 use paper::Verdict;
+use std::convert::AsSlice;
 use std::fmt::Display;
 use std::io;
 
+// Begins a line with its label: a text, or any bytes.
+pub fn label(rt: &impl Print, text: impl AsSlice<u8> + Drop) -> io::Result<()> {
+    rt.write_all(text.as_slice())?;
+    print!(rt; ":")
+}
+
 // A whole line of what looking found.
-pub fn verdict(rt: &impl Print, text: &str, seen: Verdict) -> io::Result<()> {
-    println!(rt; "{text}: {} {}", seen.number, seen.place)
+pub fn verdict(rt: &impl Print, text: impl AsSlice<u8> + Drop, seen: Verdict) -> io::Result<()> {
+    label(rt, text)?;
+    println!(rt; " {} {}", seen.number, seen.place)
 }
 
 // Further values of a line.

@@ -54,19 +54,19 @@ bit_small false = omega arith
 
 -- a walk whose first candidate is found, and one whose first is not
 module _ (l : Listed) (p x : ℕ) (xs : List ℕ) where
-  found_first : eqb (tried l p x).slot x ≡ true → (walk_list l p (x ∷ xs)).kept ≡ x ∷ (walk_list l (tried l p x).finger xs).kept
+  pub found_first : eqb (tried l p x).slot x ≡ true → (walk_list l p (x ∷ xs)).kept ≡ x ∷ (walk_list l (tried l p x).finger xs).kept
   unfolding walk_list
   found_first e = rw e
 
-  lost_first : eqb (tried l p x).slot x ≡ false → (walk_list l p (x ∷ xs)).kept ≡ (walk_list l (tried l p x).finger xs).kept
+  pub lost_first : eqb (tried l p x).slot x ≡ false → (walk_list l p (x ∷ xs)).kept ≡ (walk_list l (tried l p x).finger xs).kept
   unfolding walk_list
   lost_first e = rw e
 
-  first_looks : (walk_list l p (x ∷ xs)).looks ≡ (tried l p x).looks + (walk_list l (tried l p x).finger xs).looks
+  pub first_looks : (walk_list l p (x ∷ xs)).looks ≡ (tried l p x).looks + (walk_list l (tried l p x).finger xs).looks
   unfolding walk_list
   first_looks = refl
 
-  first_codes : (walk_list l p (x ∷ xs)).codes ≡ (tried l p x).codes + (walk_list l (tried l p x).finger xs).codes
+  pub first_codes : (walk_list l p (x ∷ xs)).codes ≡ (tried l p x).codes + (walk_list l (tried l p x).finger xs).codes
   unfolding walk_list
   first_codes = refl
 

@@ -6,10 +6,12 @@ use mathlib.Core.Bool.{Bool, false}
 use mathlib.Core.List.{List, []}
 use native.Mathlib.Nat.{le_of_lt}
 use native.Mathlib.Omega.{arith}
-use lib.ListN.{length}
+use lib.ListN.{length, take}
+use lib.Seq.{take_all}
 use borrow.Author.Tests.{ne_eqb}
 use Rattle.std.specs.Prelude.{Option}
 use Rattle.std.specs.Option.{unwrap_or}
+use Rattle.paper.specs.Bytes.{part}
 use Rattle.paper.specs.Lists.{some_slot, has, first_from}
 use Rattle.paper.specs.Held.{count_of}
 use Rattle.paper.specs.Refusal.{verdict, accepted, fault16}
@@ -23,7 +25,7 @@ use Rattle.paper.specs.declared.refusal.Refusal.{Refusal}
 use Rattle.laws.proofs.Faults.{no_zero, passes, told_on}
 use Rattle.laws.proofs.Frames.{or_first, or_second}
 use Rattle.names.specs.Asked.{slots_named}
-use Rattle.names.proofs.Records.{directory_held, record_forward, bits_there, sum_small}
+use Rattle.names.proofs.Records.{directory_held, record_forward, record_within, bits_there, sum_small}
 use Rattle.laws.proofs.Names.{Named, named, name_below, name_past, placed}
 use Rattle.laws.proofs.Links.{sixteen_small, sixteen_large, sixteen}
 
@@ -67,6 +69,10 @@ module _ (bs : List ℕ) (name : ℕ) where
 
 -- all of these (le_of_lt: no proof needs it today; with it, a test by `<` in place of `<=` fails at what it breaks)
 pub ruleset names = (look_refuses, name_refused, name_good, passes, told_on, le_of_lt)
+
+-- a record ends within the index
+pub ends_within : (bs : List ℕ) → (look bs).number ≡ 0 → (name : ℕ) → name < k_of bs → (e : ℕ) → e ≡ start_of bs (name + 1) → e ≤ length bs
+ends_within bs ok name l e isE = record_within bs ok name l (start_of bs name) e refl isE
 
 -- a refused name; n is the number that is told
 module _ (bs : List ℕ) (name : ℕ) (r : Refusal) (is : verdict (number_of r.fault) r.place ≡ name_fault bs name) where
@@ -112,10 +118,18 @@ module _ (bs : List ℕ) (name : ℕ) (is : accepted ≡ name_fault bs name) whe
       unfolding lent
       record_lent = isR ∙ rw (same, ← is)
 
+      -- and so are its first n bytes, where these are all
+      pub front_lent : (n : ℕ) → length r ≤ n → take n r ≡ lent bs name
+      front_lent n l = take_all n r l ∙ record_lent
+
       -- and counted
       pub count_told : (n : ℕ) → n ≡ count_of r → record { number = 0; place = 0; count = n } ≡ count_answer bs name
       unfolding count_answer
       count_told n e = rw (e, isR, same, ← is)
+
+    -- what lies from its start to that of the next one is lent
+    pub part_lent : (a e : ℕ) → a ≡ start_of cs name → e ≡ start_of cs (name + 1) → part cs a e ≡ lent bs name
+    part_lent a e is_a isE = record_lent (part cs a e) (rw (is_a, isE))
 
 -- a slot of a list
 module _ (bs : List ℕ) (name x : ℕ) where
@@ -199,7 +213,8 @@ pub ruleset looking = (frame_refuses, lists_tell, told_on)
 
 pub ruleset parts = (part_refused, name_looked, name_known, part_told, directory_held, record_forward)
 
-pub ruleset lending = (nothing_lent, name_looked, name_known, record_lent)
+-- (directory_held and what follows it: no proof needs it today; with it, what cuts the record otherwise fails at what it breaks)
+pub ruleset lending = (nothing_lent, name_looked, name_known, record_lent, directory_held, record_forward, ends_within, front_lent, part_lent)
 
 pub ruleset counting = (count_refused, name_looked, name_known, bits_there, sum_small, count_told)
 

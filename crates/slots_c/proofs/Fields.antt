@@ -69,12 +69,12 @@ pub put_begin : (o : List ℕ) (from : ℕ) (v : List ℕ) → putting o from v 
 put_begin o from v = let e : from + 0 ≡ from = omega arith in ap (λ (n : ℕ). sets o n v) e
 
 module _ (o₀ o : List ℕ) (from : ℕ) (v : List ℕ) (i : ℕ) (is : putting o from v i ≡ sets o₀ from v) where
-  -- one more
-  pub put_next : i < length v → (p : List ℕ) → p ≡ set o (from + i) (get_or v i 0) → putting p from v (i + 1) ≡ sets o₀ from v
-  put_next h p e =
+  -- one more, stored at `at`
+  pub put_next : i < length v → (p : List ℕ) (at : ℕ) → p ≡ set o at (get_or v i 0) → at ≡ from + i → putting p from v (i + 1) ≡ sets o₀ from v
+  put_next h p at e isA =
       let k : from + (i + 1) ≡ suc (from + i) = omega arith in
       let d : drop i v ≡ get_or v i 0 ∷ drop (suc i) v = drop-cons v i 0 h in
-      rw (e, k, add-one i) (rw d at is)
+      rw (e, isA, k, add-one i) (rw d at is)
 
   -- all
   pub put_end : length v ≤ i → o ≡ sets o₀ from v
@@ -129,22 +129,18 @@ module _ (index out out' : List ℕ) where
   unfolding ask_answer places up_from
   sixteen way names before after a is = rw is.answers
 
-  -- the fields of an answer, put in four steps
-  module _ (way : ℕ) (names before after : List ℕ) (a : Answer) (is : MeetsAsk index way names before a after) (three five looked : List ℕ) where
-    abbrev first : List ℕ
-    first = a.number ∷ a.place ∷ a.count ∷ []
+  -- the fields of an answer: its five numbers, put to the front, then the sixteen places of looks and those of codes
+  module _ (way : ℕ) (names before after : List ℕ) (a : Answer) (is : MeetsAsk index way names before a after) where
+    abbrev numbers : List ℕ
+    numbers = a.number ∷ a.place ∷ a.count ∷ a.looks ∷ a.codes ∷ []
 
-    abbrev sums : List ℕ
-    sums = a.looks ∷ a.codes ∷ []
-
-    pub ask-handed : three ≡ fitted first out → five ≡ sets three 3 sums → looked ≡ sets five 5 a.looks16 → out' ≡ sets looked 21 a.codes16
-        → HandsAsk index way names before out a.number after out'
-    ask-handed h sum looks16 codes16 =
-        let p : five ≡ fitted (first ++ sums) out = sum ∙ ap (λ (l : List ℕ). sets l 3 sums) h ∙ fitted_run first sums out 3 refl in
-        let q : looked ≡ fitted (first ++ sums ++ a.looks16) out = looks16 ∙ ap (λ (l : List ℕ). sets l 5 a.looks16) p ∙ fitted_run (first ++ sums) a.looks16 out 5 refl in
+    pub ask-handed : out' ≡ sets (sets (sets out 0 numbers) 5 a.looks16) 21 a.codes16 → HandsAsk index way names before out a.number after out'
+    ask-handed put =
+        let p = fitted_front numbers out in
+        let q = ap (λ (l : List ℕ). sets l 5 a.looks16) p ∙ fitted_run numbers a.looks16 out 5 refl in
         let l = sixteen way names before after a is in
-        let n : 21 ≡ length (first ++ sums ++ a.looks16) = omega arith in
-        let r = codes16 ∙ ap (λ (l : List ℕ). sets l 21 a.codes16) q ∙ fitted_run (first ++ sums ++ a.looks16) a.codes16 out 21 n in
+        let n : 21 ≡ length (numbers ++ a.looks16) = omega arith in
+        let r = put ∙ ap (λ (l : List ℕ). sets l 21 a.codes16) q ∙ fitted_run (numbers ++ a.looks16) a.codes16 out 21 n in
         record {
           hands = handed (λ a. a.number) answer_fields (ask_answer index way names (length before)) a out out' is.answers r;
           slots = is.leaves;

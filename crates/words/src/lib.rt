@@ -93,8 +93,8 @@ pub fn put_bit(bits: &mut [u8], x: u32)
 
 // Whether a bit beyond the cut is set. Such bits are the digits below the cut's own, in its byte, and the mask has a 1 for each. The cut 0 has no
 // byte.
-// Kept: bits with their cut, here and in `ones_to`, and in `gather` and `plain`. `record::Held` has both for a record without a fault; these are asked before that is known, or of
-// any bytes.
+// Kept: bits with their cut, here and in `ones_to`, and in `gather` and `plain`. `record::Held` has both for a record without a fault. Whether there is none is still to be found
+// out here, and counting opens no record; `gather` and `plain` do hand on what a `Held` has, but of it these two alone, and go by any bits that reach up to the cut.
 #[tactic(auto, using(crate::proofs::Unused::unused_bits))]
 pub fn rubbish(bits: &[u8], cut: u32) -> bool
     requires { cut ≤ 8 * length bits.now }
@@ -141,7 +141,8 @@ pub fn ones_to(bits: &[u8], cut: u32) -> u32
 {
     let whole = (cut / 8) as usize;
     let mut ones = ones_by_eights(bits, whole) as u32;
-    for byte in &bits[whole - whole % 8..whole] {
+    let from = whole - whole % 8;
+    for byte in &bits[from..whole] {
         ones += byte.count_ones();
     }
     let rest = cut % 8;

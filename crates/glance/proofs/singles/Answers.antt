@@ -11,4 +11,4 @@ pub returns : goal.returns
 returns c = let bytes = c.type_inv.s in
     let l = c.loop-turn in
     flats_told c.args.s.now l.turn l.sums.wrong l.sums.low l.invariant (λ i. (bytes i).fits) _ _ _ c.and.ensures
-    (search rules) (search rules) c.loop-turn-test.false l.auto.turn-end c.upper.ensures c.told.ensures
+    (search rules) (search rules) c.loop-turn-test.false l.auto.turn-end (search (c.upper.ensures, rules)) c.told.ensures

@@ -1,6 +1,6 @@
 use native.Mathlib.Nat.{le_of_lt}
 use Rattle.laws.proofs.Faults.{fault_on}
-use Rattle.record.proofs.Turns.{turns, bad_block, turn}
+use Rattle.record.proofs.Turns.{turns, bad_block, turn, block_left}
 use Rattle.record.proofs.check_blocks.Goals.{then-end-start-via-then-end-start, then-end-start-via-else-end-start+then-len-end, then-first-prev-via-then-first-prev, then-first-prev-via-else-first-prev+then-u-first}
 use Rattle.record.proofs.check_blocks.Goals as goal
 
@@ -21,7 +21,7 @@ returns-then-first-prev c =
 pub returns-in_err-prev : goal.returns-in_err-prev
 returns-in_err-prev c =
     let bad = bad_block c.loop-nth.invariant in
-    rw (fault_on c.from_residual.result _ c.from_residual.ensures.1) (search (bad, c.in_err-prev.ensures, le_of_lt))
+    rw (fault_on c.from_residual.result _ c.from_residual.ensures.1) (search (bad, c.in_err-prev.ensures, le_of_lt, block_left))
 
 pub loop-nth-preserved : goal.loop-nth-preserved
-loop-nth-preserved c = let next = turn c.loop-nth.invariant in search (next, c.in_ok-prev.ensures, le_of_lt)
+loop-nth-preserved c = let next = turn c.loop-nth.invariant in search (next, c.in_ok-prev.ensures, le_of_lt, block_left)
